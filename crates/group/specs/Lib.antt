@@ -1,0 +1,4 @@
+pub mod Groups
+pub mod Residues
+pub mod Flags
+pub mod Pairs

@@ -1,0 +1,4 @@
+pub mod Abelian
+pub mod Meeting
+pub mod Order
+pub mod Same
