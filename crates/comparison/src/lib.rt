@@ -1,6 +1,6 @@
 // Comparison keys: the calls that deal a key, evaluate it and join both answers, with the questions that they ask first.
 ghost use mathlib.Core.Path.{_≡_};
-ghost use mathlib.Core.Bool.{_&&_};
+ghost use mathlib.Core.Bool.{true, false, _&&_};
 ghost use lib.ListN.{length};
 ghost use denote.Ref.{name};
 ghost use Rattle.refusal.specs.Questions.{answered};
@@ -91,6 +91,31 @@ pub struct Answers<G> {
     pub joined: G,
 }
 
+// Both boxes evaluate, each from its own root, and the answers are joined.
+fn answer_both<X: Expander, Y: Expander, G: Group>(
+    box0: &X,
+    box1: &Y,
+    root0: Seed,
+    root1: Seed,
+    rows: &Rows<G>,
+    last: G,
+    point: u32,
+) -> Answers<G>
+    ensures zero { λ r. ⌜ G·Group .mean (r .answer0)
+        ≡ evaluated (X·Expander .meaning) (G·Group .group) (G·Group .mean) false root0 (now (now (rows .entry) .rows)) last point ⌝ }
+    ensures one { λ r. ⌜ G·Group .mean (r .answer1)
+        ≡ evaluated (Y·Expander .meaning) (G·Group .group) (G·Group .mean) true root1 (now (now (rows .entry) .rows)) last point ⌝ }
+    ensures sum { λ r. ⌜ G·Group .mean (r .joined) ≡ G·Group .group .sum (G·Group .mean (r .answer0)) (G·Group .mean (r .answer1)) ⌝ }
+{
+    let answer0 = answer(box0, BoxNumber::Zero, root0, rows, last, point);
+    let answer1 = answer(box1, BoxNumber::One, root1, rows, last, point);
+    Answers {
+        answer0,
+        answer1,
+        joined: join(answer0, answer1),
+    }
+}
+
 // A dealer and two boxes, each with an expander of its own: deals one key, evaluates it at both boxes, and joins the
 // answers. Where the three expanders have one meaning and kind, the join is the comparison of the point with the
 // threshold.
@@ -125,11 +150,5 @@ pub fn compare<D: Expander, X: Expander, Y: Expander, G: Group>(
         G::words(),
     )?;
     let last = deal(dealer, threshold, payload, root0, root1, rows);
-    let answer0 = answer(box0, BoxNumber::Zero, root0, rows, last, point);
-    let answer1 = answer(box1, BoxNumber::One, root1, rows, last, point);
-    Ok(Answers {
-        answer0,
-        answer1,
-        joined: join(answer0, answer1),
-    })
+    Ok(answer_both(box0, box1, root0, root1, rows, last, point))
 }

@@ -12,7 +12,7 @@ use Rattle.key.specs.declared.Row.{Row}
 use Rattle.key.specs.Rows.{row-mean}
 use Rattle.evaluation.specs.Evaluation.{bit-at}
 use Rattle.dealing.specs.declared.Descent.{Descent}
-use Rattle.dealing.specs.Dealing.{row-from, next-from, row-at, next-at, dealt-rows, dealt-last, cancelling}
+use Rattle.dealing.specs.Dealing.{row-from, next-from, row-at, next-at, dealt-rows, dealt-last, final-from}
 
 module _ {G M : Type 0} (x : Expansion) (g : OutputGroup M) (mean : G → M) (β : M) (α : ℕ) where
   abbrev pub dealing : List (Row G) → ℕ → ℕ → Descent M → List (Row M)
@@ -22,7 +22,7 @@ module _ {G M : Type 0} (x : Expansion) (g : OutputGroup M) (mean : G → M) (β
   rows-end xs i left d h e =
       sym (append-nil (map (row-mean mean) xs)) ∙ ap (λ l. map (row-mean mean) l ++ []) (sym (take-all i xs h)) ∙ ap (λ n. map (row-mean mean) (take i xs) ++ dealt-rows x g β α n d) (sym e)
 
-  pub last-end : (left : ℕ) (d : Descent M) → left ≡ 0 → cancelling x g (d .seed0) (d .seed1) d ≡ dealt-last x g β α left d
+  pub last-end : (left : ℕ) (d : Descent M) → left ≡ 0 → final-from x g d ≡ dealt-last x g β α left d
   last-end left d e = ap (λ n. dealt-last x g β α n d) (sym e)
 
   module _ (d d' : Descent M) (k left : ℕ) (bit : Bool) (b0 b1 : Branches) (row : Row G) (is : left ≡ suc k) (eb : bit ≡ bit-at α k) (e0 : b0 ≡ x .branch (d .seed0)) (e1 : b1 ≡ x .branch (d .seed1))

@@ -65,6 +65,10 @@ module _ {M : Type 0} (x : Expansion) (g : OutputGroup M) where
         apart = g .sum (g .sum (d .apart) (minus g (draw (keep0 .value)) (draw (keep1 .value)))) (signed g (d .control1) (r .element));
       }
 
+  -- the final element, from the last seeds
+  abbrev pub final-from : Descent M → M
+  final-from d = cancelling (d .seed0) (d .seed1) d
+
   abbrev pub row-at : M → Bool → Descent M → Row M
   row-at β bit d = row-from β bit d (x .branch (d .seed0)) (x .branch (d .seed1))
 
@@ -76,7 +80,7 @@ module _ {M : Type 0} (x : Expansion) (g : OutputGroup M) where
   dealt-rows β α zero d = []
   dealt-rows β α (suc k) d = row-at β (bit-at α k) d ∷ dealt-rows β α k (next-at β (bit-at α k) d)
 
-  -- the final element, drawn from the last seeds
+  -- the final element after the k lowest bits
   abbrev pub dealt-last : M → ℕ → ℕ → Descent M → M
-  dealt-last β α zero d = cancelling (d .seed0) (d .seed1) d
+  dealt-last β α zero d = final-from d
   dealt-last β α (suc k) d = dealt-last β α k (next-at β (bit-at α k) d)

@@ -6,7 +6,7 @@ ghost use lib.ListN.{length};
 ghost use denote.Ref.{name};
 ghost use Rattle.key.specs.Rows.{row-mean};
 ghost use Rattle.evaluation.specs.Evaluation.{drawn-from};
-ghost use Rattle.dealing.specs.Dealing.{descent-mean, next-seed, next-control, signed, cancelling, row-from, next-from, dealt-rows, dealt-last, start};
+ghost use Rattle.dealing.specs.Dealing.{descent-mean, next-seed, next-control, signed, cancelling, row-from, next-from, final-from, dealt-rows, dealt-last, start};
 use evaluation::bit_at;
 use evaluation::differ;
 use evaluation::side_of;
@@ -127,6 +127,26 @@ fn next_for<X: Expander, G: Group>(
     }
 }
 
+// At the roots.
+fn begin<G: Group>(root0: Seed, root1: Seed) -> Descent<G>
+    ensures { λ r. ⌜ descent-mean (G·Group .mean) r ≡ start (G·Group .group) root0 root1 ⌝ }
+{
+    Descent {
+        seed0: root0,
+        seed1: root1,
+        control0: false,
+        control1: true,
+        apart: G::zero(),
+    }
+}
+
+// The final element, from the last seeds.
+fn final_for<X: Expander, G: Group>(expander: &X, at: Descent<G>) -> G
+    ensures { λ r. ⌜ G·Group .mean r ≡ final-from (X·Expander .meaning) (G·Group .group) (descent-mean (G·Group .mean) at) ⌝ }
+{
+    cancels(expander, at.seed0, at.seed1, at)
+}
+
 // Deals a key into the table, a row for each bit of the threshold, the highest first; the final element is returned.
 pub fn deal<X: Expander, G: Group>(
     expander: &X,
@@ -144,13 +164,7 @@ pub fn deal<X: Expander, G: Group>(
         (start (G·Group .group) root0 root1) ⌝ }
     ensures same { λ _. ⌜ name (now (rows .exit) .rows) ≡ name (now (rows .entry) .rows) ⌝ }
 {
-    let mut at = Descent {
-        seed0: root0,
-        seed1: root1,
-        control0: false,
-        control1: true,
-        apart: G::zero(),
-    };
+    let mut at = begin(root0, root1);
     let mut left = rows.count();
     for i in 0..rows.count() {
         left -= 1;
@@ -161,5 +175,5 @@ pub fn deal<X: Expander, G: Group>(
         rows.put(i, row);
         at = next_for(expander, bit, at, b0, b1, row);
     }
-    cancels(expander, at.seed0, at.seed1, at)
+    final_for(expander, at)
 }

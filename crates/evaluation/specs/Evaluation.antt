@@ -32,6 +32,10 @@ bit-at m k = eqb (m / 2 ^ k % 2) 1
 abbrev pub walk-mean : {G M : Type 0} → (G → M) → Walk G → Walk M
 walk-mean mean w = record { seed = w .seed; control = w .control; sum = mean (w .sum) }
 
+-- at the root: box 1 begins with its control bit set, and nothing is added yet
+abbrev pub begun : {M : Type 0} → OutputGroup M → Bool → Seed → Walk M
+begun g one root = record { seed = root; control = one; sum = g .zero }
+
 module _ {G M : Type 0} (x : Expansion) (g : OutputGroup M) (mean : G → M) where
   -- the element drawn from a seed; keys draw from word 0 on
   abbrev pub drawn-from : Seed → M
@@ -61,6 +65,6 @@ module _ {G M : Type 0} (x : Expansion) (g : OutputGroup M) (mean : G → M) whe
       let all : M = cond (w .control) (g .sum (g .sum (w .sum) (drawn-from (w .seed))) (mean last)) (g .sum (w .sum) (drawn-from (w .seed))) in
       cond one (g .inverse all) all
 
-  -- a box's answer at the point m, from its root and its number as first control bit
+  -- a box's answer at the point m
   abbrev pub evaluated : Bool → Seed → List (Row G) → G → ℕ → M
-  evaluated one root rows last m = ended last one (walked rows m (record { seed = root; control = one; sum = g .zero }))
+  evaluated one root rows last m = ended last one (walked rows m (begun g one root))

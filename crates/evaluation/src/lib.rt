@@ -1,7 +1,7 @@
 // One box's evaluation of a comparison key at a point.
 ghost use mathlib.Core.Path.{_≡_};
 ghost use Rattle.key.specs.Rows.{is-one};
-ghost use Rattle.evaluation.specs.Evaluation.{differ, side-of, bit-at, walk-mean, stepped, ended, evaluated};
+ghost use Rattle.evaluation.specs.Evaluation.{differ, side-of, bit-at, walk-mean, begun, stepped, walked, ended, evaluated};
 use expander::Branches;
 use expander::Expander;
 use expander::Seed;
@@ -95,7 +95,38 @@ fn finish<X: Expander, G: Group>(expander: &X, number: BoxNumber, last: G, at: W
     if number.is_one() { sum.neg() } else { sum }
 }
 
-// A box's answer at a point: the walk over all rows from its root, the point's highest bit first.
+// At the root: box 1 begins with its control bit set.
+fn begin<G: Group>(number: BoxNumber, root: Seed) -> Walk<G>
+    ensures { λ r. ⌜ walk-mean (G·Group .mean) r ≡ begun (G·Group .group) (is-one number) root ⌝ }
+{
+    Walk {
+        seed: root,
+        control: number.is_one(),
+        sum: G::zero(),
+    }
+}
+
+// Past all rows, by the point's bits, the highest first.
+fn walk_rows<X: Expander, G: Group>(
+    expander: &X,
+    from: Walk<G>,
+    rows: &Rows<G>,
+    point: u32,
+) -> Walk<G>
+    ensures { λ r. ⌜ walk-mean (G·Group .mean) r
+        ≡ walked (X·Expander .meaning) (G·Group .group) (G·Group .mean) (now (now (rows .entry) .rows)) point (walk-mean (G·Group .mean) from) ⌝ }
+{
+    let mut at = from;
+    let rows = rows.as_slice();
+    let mut left = rows.len();
+    for row in rows {
+        left -= 1;
+        at = step(expander, at, *row, bit_at(point, left));
+    }
+    at
+}
+
+// A box's answer at a point: the walk over all rows from its root.
 pub fn answer<X: Expander, G: Group>(
     expander: &X,
     number: BoxNumber,
@@ -107,16 +138,6 @@ pub fn answer<X: Expander, G: Group>(
     ensures { λ r. ⌜ G·Group .mean r
         ≡ evaluated (X·Expander .meaning) (G·Group .group) (G·Group .mean) (is-one number) root (now (now (rows .entry) .rows)) last point ⌝ }
 {
-    let mut at = Walk {
-        seed: root,
-        control: number.is_one(),
-        sum: G::zero(),
-    };
-    let rows = rows.as_slice();
-    let mut left = rows.len();
-    for row in rows {
-        left -= 1;
-        at = step(expander, at, *row, bit_at(point, left));
-    }
+    let at = walk_rows(expander, begin(number, root), rows, point);
     finish(expander, number, last, at)
 }

@@ -95,8 +95,15 @@ pub impl Group for Flags as FlagsGroup {
     }
 
     fn from_draw(words: &[u64; 8], start: usize) -> Flags {
-        Flags((words[start % 8] % 0x1_0000_0000) as u32)
+        Flags(low_half(words[start % 8]))
     }
+}
+
+// A word's low 32 bits.
+fn low_half(word: u64) -> u32
+    ensures { λ r. ⌜ r ≡ word % 2 ^ 32 ⌝ }
+{
+    (word % 0x1_0000_0000) as u32
 }
 
 // Two groups side by side.

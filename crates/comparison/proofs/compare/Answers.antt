@@ -31,8 +31,8 @@ returns g c =
     let d = g .D·Expander .meaning in
     let x = g .X·Expander .meaning in
     let y = g .Y·Expander .meaning in
-    let a0 = c .answer-answer0 .result in
-    let a1 = c .answer-answer1 .result in
+    let both = c .answer-both .result in
+    let said = c .answer-both .ensures in
     let rows = now (c .deal-last .last .rows .rows) in
     let last = c .deal-last .result in
     let β = m .mean (c .args .payload) in
@@ -51,10 +51,10 @@ returns g c =
     let rows-are = c .deal-last .ensures .rows ∙ ap (λ k. dealt-rows d (m .group) β α k st) all in
     let last-is = c .deal-last .ensures .last ∙ ap (λ k. dealt-last d (m .group) β α k st) all in
     record {
-      answers = ap Ok (answers-are (m .group) (m .mean) d w α β r0 r1 p rows last rows-are last-is x y a0 a1 (c .join .result) (c .answer-answer0 .ensures) (c .answer-answer1 .ensures) (c .join .ensures))
+      answers = ap Ok (answers-are (m .group) (m .mean) d w α β r0 r1 p rows last rows-are last-is x y (both .answer0) (both .answer1) (both .joined) (said .zero) (said .one) (said .sum))
           ∙ sym (accepted w (c .both-in-range .ensures) (c .count .ensures) (c .words .ensures .count) u _ asked);
       joins = λ ex ey.
-          ap Ok (join-is (m .group) (m .mean) d w α β r0 r1 p rows last rows-are last-is x y a0 a1 (c .join .result) (c .answer-answer0 .ensures) (c .answer-answer1 .ensures) (c .join .ensures)
+          ap Ok (join-is (m .group) (m .mean) d w α β r0 r1 p rows last rows-are last-is x y (both .answer0) (both .answer1) (both .joined) (said .zero) (said .one) (said .sum)
           (g .D·Expander·met .wide) ex ey (fits-yes w fits n (m .group .count) (tt {0}) (tt {0}) done))
           ∙ sym (accepted w (c .both-in-range .ensures) (c .count .ensures) (c .words .ensures .count) u _ asked);
       rows = rows-are;

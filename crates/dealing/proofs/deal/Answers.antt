@@ -17,7 +17,7 @@ loop-i-holds g c =
     let m = g .G·Group in
     let β = m .mean (c .args .payload) in
     let α = c .args .threshold in
-    let d = descent-mean (m .mean) (record { seed0 = c .args .root0; seed1 = c .args .root1; control0 = false; control1 = true; apart = c .zero .result }) in
+    let d = descent-mean (m .mean) (c .begin-at .result) in
     (refl, refl, add-zero (c .count-left .result) ∙ e, ap (λ n. dealt-rows x (m .group) β α n d) e, ap (λ n. dealt-last x (m .group) β α n d) e)
 
 pub sub-left : need.sub-left
@@ -64,8 +64,8 @@ returns g c =
     let all : length xs ≤ i = omega (arith, inv .0, c .count-i-end .ensures, c .loop-i-test .left) in
     record {
       rows = rows-end x (m .group) (m .mean) β α xs i left d all none ∙ inv .3
-          ∙ ap (λ z. dealt-rows x (m .group) β α n (record { seed0 = c .args .root0; seed1 = c .args .root1; control0 = false; control1 = true; apart = z })) (c .zero .ensures);
-      last = c .cancels .ensures ∙ last-end x (m .group) (m .mean) β α left d none ∙ inv .4
-          ∙ ap (λ z. dealt-last x (m .group) β α n (record { seed0 = c .args .root0; seed1 = c .args .root1; control0 = false; control1 = true; apart = z })) (c .zero .ensures);
+          ∙ ap (dealt-rows x (m .group) β α n) (c .begin-at .ensures);
+      last = c .final-for .ensures ∙ last-end x (m .group) (m .mean) β α left d none ∙ inv .4
+          ∙ ap (dealt-last x (m .group) β α n) (c .begin-at .ensures);
       same = inv .1;
     }

@@ -2,7 +2,7 @@ use mathlib.Core.Path.{_≡_}
 use Prim.Native.Nat.{_+_, _≤_}
 use lib.ListN.{length, drop}
 use Rattle.evaluation.specs.Evaluation.{walked, walk-mean}
-use Rattle.evaluation.proofs.answer.Given as given
+use Rattle.evaluation.proofs.walk_rows.Given as given
 
 abbrev pub Inv-loop-row : given.InvT-loop-row
 Inv-loop-row g l =

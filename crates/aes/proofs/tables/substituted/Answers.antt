@@ -1,0 +1,7 @@
+use mathlib.Core.Path.{_∙_}
+use native.Mathlib.Omega.{arith}
+use Rattle.standards.proofs.Substitution.{s-box-entry}
+use Rattle.aes.proofs.tables.substituted.Needs as need
+
+pub returns : need.returns
+returns c = c .table-entry .ensures ∙ s-box-entry (c .args .b) (omega arith)

@@ -1,0 +1,3 @@
+pub mod Fips197
+pub mod Rfc8439
+pub mod Kinds
