@@ -8,7 +8,7 @@ use lib.ListN.{getD}
 use Rattle.aes.specs.Blocks.{word-bytes}
 use Rattle.aes.specs.Rows.{moved-down, row-table}
 use Rattle.standards.specs.Fips197.{s-box, s-box-table, times}
-use Rattle.standards.proofs.Substitution.{s-box-entry}
+use Rattle.standards.proofs.Printed.{s-box-entry}
 use Rattle.standards.proofs.Tables.{at, both, both-left, both-right, every}
 
 abbrev same : List ℕ → List ℕ → Bool

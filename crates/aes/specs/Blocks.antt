@@ -23,10 +23,6 @@ abbrev pub mixed-column : ℕ → ℕ → ℕ → ℕ → List ℕ
 mixed-column a b c d =
     mix-column (s-box (a / 16777216 % 256)) (s-box (b / 65536 % 256)) (s-box (c / 256 % 256)) (s-box (d % 256))
 
--- the first bytes of the round constants, as FIPS 197 prints them in 5.2
-abbrev pub rcon-table : List ℕ
-rcon-table = 0x01 ∷ 0x02 ∷ 0x04 ∷ 0x08 ∷ 0x10 ∷ 0x20 ∷ 0x40 ∷ 0x80 ∷ 0x1b ∷ 0x36 ∷ []
-
 -- the bytes of block i of a list
 abbrev pub key-at : List Block → ℕ → List ℕ
 key-at keys i = block-bytes (getD keys i (record { 0 = 0; 1 = 0; 2 = 0; 3 = 0 }))

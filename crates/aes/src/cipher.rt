@@ -1,8 +1,8 @@
 // Round keys: made of a key, read, and used to encrypt blocks.
 ghost use mathlib.Core.Path.{_≡_};
-ghost use Prim.Native.Nat.{ℕ, _<_};
+ghost use Prim.Native.Nat.{_<_};
 ghost use Rattle.aes.specs.Blocks.{block-bytes};
-ghost use Rattle.aes.specs.Keys.{key-of};
+ghost use Rattle.aes.specs.Keys.{Expanded, key-of};
 ghost use Rattle.standards.specs.Fips197.{cipher, full-rounds, key-expansion, round-key};
 ghost use Rattle.standards.specs.Kinds.{number};
 use crate::block::Block;
@@ -13,7 +13,8 @@ use crate::schedule::expanded;
 
 impl RoundKeys {
     pub fn new(key: &[u8; 16]) -> RoundKeys
-        ensures { λ r. ⌜ key-of r ≡ now (key .entry) ⌝ }
+        ensures key { λ r. ⌜ key-of r ≡ now (key .entry) ⌝ }
+        ensures round_keys { λ r. ⌜ Expanded r (now (key .entry)) ⌝ }
     {
         let keys = expanded(Block::from_bytes(key));
         RoundKeys { keys }
@@ -43,6 +44,7 @@ impl RoundKeys {
         let state = self.full_rounds(block.add_round_key(self.round_key(0)));
         last_round(self.round_key(10), state)
     }
+
     // The encryption of the number j in sixteen bytes, the highest first.
     pub(crate) fn encrypt_number(&self, j: u8) -> [u8; 16]
         ensures { λ r. ⌜ r ≡ cipher (key-of (now (self .entry))) (number j) ⌝ }

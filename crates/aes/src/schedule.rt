@@ -2,8 +2,8 @@
 ghost use lib.ListN.{getD};
 ghost use mathlib.Core.Path.{_≡_};
 ghost use Prim.Native.Nat.{_<_};
-ghost use Rattle.aes.specs.Blocks.{block-bytes, word-bytes, rcon-table, key-at, Scheduled};
-ghost use Rattle.standards.specs.Fips197.{next-round-key, schedule-core};
+ghost use Rattle.aes.specs.Blocks.{block-bytes, word-bytes, key-at, Scheduled};
+ghost use Rattle.standards.specs.Fips197.{next-round-key, rcon-table, schedule-core};
 use crate::block::Block;
 use crate::block::first_byte;
 use crate::block::fourth_byte;

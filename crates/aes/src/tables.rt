@@ -1299,6 +1299,7 @@ static ROW_3: [u32; 256] = [
     0x16163a2c,
 ];
 
+// The printed table of SBox, read.
 fn table_entry(b: u8) -> u8
     ensures { λ r. ⌜ r ≡ getD s-box-table b 0 ⌝ }
 {

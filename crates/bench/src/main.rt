@@ -98,7 +98,7 @@ fn evaluate_keys<X: Expander, G: Group>(
             expander,
             BoxNumber::One,
             root(16),
-            &rows,
+            rows.as_slice(),
             last,
             i.wrapping_mul(2654435761),
         ));

@@ -61,7 +61,7 @@ fn sums(s: &[u32; 16], t: &[u32; 16]) -> [u32; 16]
     ]
 }
 
-pub fn block_words(key: &[u8; 32], counter: u32, nonce: &[u8; 12]) -> [u32; 16]
+fn block_words(key: &[u8; 32], counter: u32, nonce: &[u8; 12]) -> [u32; 16]
     ensures { λ r. ⌜ r ≡ block-words (now (key .entry)) counter (now (nonce .entry)) ⌝ }
 {
     let first = start(key, counter, nonce);
@@ -70,7 +70,8 @@ pub fn block_words(key: &[u8; 32], counter: u32, nonce: &[u8; 12]) -> [u32; 16]
     sums(&state, &first)
 }
 
-pub fn four_words(a: u32, b: u32, c: u32, d: u32) -> [u8; 16]
+// Four words as bytes.
+fn four_words(a: u32, b: u32, c: u32, d: u32) -> [u8; 16]
     ensures { λ r. ⌜ r ≡ serialized (a ∷ b ∷ c ∷ d ∷ []) ⌝ }
 {
     let w = a.to_le_bytes();

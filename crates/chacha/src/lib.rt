@@ -1,5 +1,4 @@
 // ChaCha20, and the expander of kind 2 that is made of it.
-ghost use lib.ListN.{length};
 ghost use mathlib.Core.Path.{_≡_};
 ghost use Prim.Native.Nat.{_+_, _≤_};
 ghost use Rattle.standards.specs.Kinds.{kind2, block2, seed-at, long-at};

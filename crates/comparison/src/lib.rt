@@ -17,6 +17,7 @@ use expander::Seed;
 use group::Group;
 use joining::join;
 use key::BoxNumber;
+use key::Row;
 use key::Rows;
 use refusal::Refusal;
 
@@ -80,7 +81,7 @@ pub fn evaluate<X: Expander, G: Group>(
         (evaluated (X·Expander .meaning) (G·Group .group) (G·Group .mean) (is-one number) root (now (now (rows .entry) .rows)) last point) ⌝ }
 {
     ask_key(width, in_range(point, width), rows.count(), G::words())?;
-    Ok(answer(expander, number, root, rows, last, point))
+    Ok(answer(expander, number, root, rows.as_slice(), last, point))
 }
 
 // Both boxes' answers, and what they join to.
@@ -97,14 +98,14 @@ fn answer_both<X: Expander, Y: Expander, G: Group>(
     box1: &Y,
     root0: Seed,
     root1: Seed,
-    rows: &Rows<G>,
+    rows: &[Row<G>],
     last: G,
     point: u32,
 ) -> Answers<G>
     ensures zero { λ r. ⌜ G·Group .mean (r .answer0)
-        ≡ evaluated (X·Expander .meaning) (G·Group .group) (G·Group .mean) false root0 (now (now (rows .entry) .rows)) last point ⌝ }
+        ≡ evaluated (X·Expander .meaning) (G·Group .group) (G·Group .mean) false root0 (now (rows .entry)) last point ⌝ }
     ensures one { λ r. ⌜ G·Group .mean (r .answer1)
-        ≡ evaluated (Y·Expander .meaning) (G·Group .group) (G·Group .mean) true root1 (now (now (rows .entry) .rows)) last point ⌝ }
+        ≡ evaluated (Y·Expander .meaning) (G·Group .group) (G·Group .mean) true root1 (now (rows .entry)) last point ⌝ }
     ensures sum { λ r. ⌜ G·Group .mean (r .joined) ≡ G·Group .group .sum (G·Group .mean (r .answer0)) (G·Group .mean (r .answer1)) ⌝ }
 {
     let answer0 = answer(box0, BoxNumber::Zero, root0, rows, last, point);
@@ -150,5 +151,5 @@ pub fn compare<D: Expander, X: Expander, Y: Expander, G: Group>(
         G::words(),
     )?;
     let last = deal(dealer, threshold, payload, root0, root1, rows);
-    Ok(answer_both(box0, box1, root0, root1, rows, last, point))
+    Ok(answer_both(box0, box1, root0, root1, rows.as_slice(), last, point))
 }

@@ -8,7 +8,6 @@ use expander::Seed;
 use group::Group;
 use key::BoxNumber;
 use key::Row;
-use key::Rows;
 
 // One side of a branch.
 #[derive(Clone, Copy)]
@@ -110,14 +109,13 @@ fn begin<G: Group>(number: BoxNumber, root: Seed) -> Walk<G>
 fn walk_rows<X: Expander, G: Group>(
     expander: &X,
     from: Walk<G>,
-    rows: &Rows<G>,
+    rows: &[Row<G>],
     point: u32,
 ) -> Walk<G>
     ensures { λ r. ⌜ walk-mean (G·Group .mean) r
-        ≡ walked (X·Expander .meaning) (G·Group .group) (G·Group .mean) (now (now (rows .entry) .rows)) point (walk-mean (G·Group .mean) from) ⌝ }
+        ≡ walked (X·Expander .meaning) (G·Group .group) (G·Group .mean) (now (rows .entry)) point (walk-mean (G·Group .mean) from) ⌝ }
 {
     let mut at = from;
-    let rows = rows.as_slice();
     let mut left = rows.len();
     for row in rows {
         left -= 1;
@@ -131,12 +129,12 @@ pub fn answer<X: Expander, G: Group>(
     expander: &X,
     number: BoxNumber,
     root: Seed,
-    rows: &Rows<G>,
+    rows: &[Row<G>],
     last: G,
     point: u32,
 ) -> G
     ensures { λ r. ⌜ G·Group .mean r
-        ≡ evaluated (X·Expander .meaning) (G·Group .group) (G·Group .mean) (is-one number) root (now (now (rows .entry) .rows)) last point ⌝ }
+        ≡ evaluated (X·Expander .meaning) (G·Group .group) (G·Group .mean) (is-one number) root (now (rows .entry)) last point ⌝ }
 {
     let at = walk_rows(expander, begin(number, root), rows, point);
     finish(expander, number, last, at)

@@ -1,3 +1,5 @@
+pub mod Back
 pub mod Numbers
+pub mod Orders
 pub mod Pieces
 pub mod Placed

@@ -1,6 +1,7 @@
 // The orders of the console: one line is one order.
 ghost use mathlib.Core.Path.{_≡_};
 ghost use Rattle.orders.specs.Grammar.{deal-of, point-of, idle, parsed};
+ghost use Rattle.orders.specs.Lines.{ReadsBack};
 ghost use Rattle.orders.specs.Text.{words};
 
 mod fields;
@@ -72,8 +73,7 @@ fn is_idle(word: &[u8]) -> bool
     word.len() == 0 || word[0] == b'#'
 }
 
-// What a line orders.
-pub fn parse(line: &[u8]) -> Result<Order, Fault>
+fn order_of(line: &[u8]) -> Result<Order, Fault>
     ensures { λ r. ⌜ r ≡ parsed (now (line .entry)) ⌝ }
 {
     let word = word_at(line, 1);
@@ -91,4 +91,12 @@ pub fn parse(line: &[u8]) -> Result<Order, Fault>
             word: 1,
         })
     }
+}
+
+// What a line orders, or the first word that is wrong.
+pub fn parse(line: &[u8]) -> Result<Order, Fault>
+    ensures is { λ r. ⌜ r ≡ parsed (now (line .entry)) ⌝ }
+    ensures back { λ r. ⌜ ReadsBack (now (line .entry)) r ⌝ }
+{
+    order_of(line)
 }

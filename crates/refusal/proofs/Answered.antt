@@ -6,7 +6,7 @@ use native.Mathlib.Omega.{arith}
 use Rattle.std.specs.declared.result.Result.{Result}
 use Rattle.std.specs.declared.result.Result.the-variants.{Ok, Err}
 use Rattle.refusal.specs.declared.Refusal.{Refusal}
-use Rattle.refusal.specs.Questions.{answered}
+use Rattle.refusal.specs.Questions.{asked, answered}
 use Prim.Native.Nat.{ℕ}
 
 -- whether a result is an answer
@@ -36,3 +36,12 @@ first-yes false e qs x z h = absurd (apart (sym (ap ok h)))
 pub rest-yes : {X : Type 0} (b : Bool) (e : Refusal) (qs : List (Bool × Refusal)) (x z : X) → answered ((b, e) ∷ qs) x ≡ Ok z → answered qs x ≡ Ok z
 rest-yes true e qs x z h = h
 rest-yes false e qs x z h = absurd (apart (sym (ap ok h)))
+
+-- one question alone
+pub one-refused : {Y : Type 0} (b : Bool) (e f : Refusal) (y : Y) → Err f ≡ asked b e → answered ((b, e) ∷ []) y ≡ Err f
+one-refused true e f y h = absurd (apart (sym (ap ok h)))
+one-refused false e f y h = ap Err (sym (cc))
+
+pub one-yes : (b : Bool) (e : Refusal) (u : Unit {0}) → Ok u ≡ asked b e → b ≡ true
+one-yes true e u h = refl
+one-yes false e u h = absurd (apart (ap ok h))

@@ -1,3 +1,3 @@
 pub mod Tables
-pub mod Substitution
+pub mod Printed
 pub mod Lengths

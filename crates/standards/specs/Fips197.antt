@@ -116,6 +116,10 @@ abbrev pub rcon : ℕ → ℕ
 rcon zero = 1
 rcon (suc i) = x-times (rcon i)
 
+-- 5.2: the first bytes of the round constants, as printed
+abbrev pub rcon-table : List ℕ
+rcon-table = 0x01 ∷ 0x02 ∷ 0x04 ∷ 0x08 ∷ 0x10 ∷ 0x20 ∷ 0x40 ∷ 0x80 ∷ 0x1b ∷ 0x36 ∷ []
+
 -- 5.2: SubWord of RotWord of a word, with a round constant added
 unfoldable pub schedule-core : ℕ → List ℕ → List ℕ
 schedule-core constant w = xor (sub-word (rot-word w)) (constant ∷ 0 ∷ 0 ∷ 0 ∷ [])

@@ -1,10 +1,12 @@
 use mathlib.Core.Path.{_≡_, refl, sym, ap, _∙_}
 use mathlib.Core.Bool.{Bool, _&&_}
+use mathlib.Core.List.{map}
 use Prim.Native.Nat.{ℕ}
 use denote.Ref.{now}
 use lib.ListN.{length}
 use Rattle.std.specs.declared.result.Result.the-variants.{Ok, Err}
 use Rattle.std.proofs.shelf.Results.{err-from-errBy}
+use Rattle.key.specs.Rows.{row-mean}
 use Rattle.dealing.specs.Dealing.{start, dealt-rows, dealt-last}
 use Rattle.comparison.specs.Questions.{in-range}
 use Rattle.comparison.specs.Comparison.{answer-mean, answers-mean, joined-mean}
@@ -33,7 +35,7 @@ returns g c =
     let y = g .Y·Expander .meaning in
     let both = c .answer-both .result in
     let said = c .answer-both .ensures in
-    let rows = now (c .deal-last .last .rows .rows) in
+    let rows = c .as-slice .result .now in
     let last = c .deal-last .result in
     let β = m .mean (c .args .payload) in
     let α : ℕ = c .args .threshold in
@@ -48,7 +50,7 @@ returns g c =
     let u = c .in-Continue-ask-key .field-0 in
     let done = accepted w (c .both-in-range .ensures) (c .count .ensures) (c .words .ensures .count) u (tt {0}) asked in
     let all : n ≡ w = rows-yes w fits n (m .group .count) (tt {0}) (tt {0}) done in
-    let rows-are = c .deal-last .ensures .rows ∙ ap (λ k. dealt-rows d (m .group) β α k st) all in
+    let rows-are = ap (map (row-mean (m .mean))) (c .as-slice .ensures) ∙ c .deal-last .ensures .rows ∙ ap (λ k. dealt-rows d (m .group) β α k st) all in
     let last-is = c .deal-last .ensures .last ∙ ap (λ k. dealt-last d (m .group) β α k st) all in
     record {
       answers = ap Ok (answers-are (m .group) (m .mean) d w α β r0 r1 p rows last rows-are last-is x y (both .answer0) (both .answer1) (both .joined) (said .zero) (said .one) (said .sum))
@@ -57,6 +59,6 @@ returns g c =
           ap Ok (join-is (m .group) (m .mean) d w α β r0 r1 p rows last rows-are last-is x y (both .answer0) (both .answer1) (both .joined) (said .zero) (said .one) (said .sum)
           (g .D·Expander·met .wide) ex ey (fits-yes w fits n (m .group .count) (tt {0}) (tt {0}) done))
           ∙ sym (accepted w (c .both-in-range .ensures) (c .count .ensures) (c .words .ensures .count) u _ asked);
-      rows = rows-are;
+      rows = c .deal-last .ensures .rows ∙ ap (λ k. dealt-rows d (m .group) β α k st) all;
       same = c .deal-last .ensures .same;
     }

@@ -1,4 +1,3 @@
-use mathlib.Core.Bool.{Bool}
 use mathlib.Core.List.{List}
 use mathlib.Core.Logic.{_≢_}
 use mathlib.Core.Path.{_≡_, _∙_, ap, sym, refl}
@@ -6,20 +5,12 @@ use Prim.Native.Nat.{ℕ, _<_, _+_}
 use native.Mathlib.Numerals.{add-one}
 use native.Mathlib.Omega.{arith}
 use borrow.Author.Count.{below-more, below-none}
-use lib.Dec.{eqb, eqb→eq}
 use lib.ListN.{length, getD, length-set}
 use lib.Seq.{getD-set-same, getD-set-other}
-use Rattle.aes.specs.Blocks.{block-bytes, key-at, rcon-table}
-use Rattle.standards.specs.Fips197.{rcon, round-key, next-round-key}
-use Rattle.standards.proofs.Tables.{at}
+use Rattle.aes.specs.Blocks.{block-bytes}
+use Rattle.standards.specs.Fips197.{rcon-table, round-key, next-round-key}
+use Rattle.standards.proofs.Printed.{rcon-entry}
 use Rattle.aes.proofs.schedule.expanded.Needs as need
-
-right : ℕ → ℕ → Bool
-right k x = eqb x (rcon k)
-
-rcon-entry : (i : ℕ) → i < 10 → getD rcon-table i 0 ≡ rcon i
-unfolding right
-rcon-entry i h = eqb→eq (getD rcon-table i 0) (rcon i) (at right rcon-table tt i h)
 
 -- one more round key
 next : (i constant : ℕ) (key last new : List ℕ) → i < 10 → constant ≡ getD rcon-table i 0 → last ≡ round-key i key

@@ -1,6 +1,6 @@
 use mathlib.Core.Path.{_∙_}
 use native.Mathlib.Omega.{arith}
-use Rattle.standards.proofs.Substitution.{s-box-entry}
+use Rattle.standards.proofs.Printed.{s-box-entry}
 use Rattle.aes.proofs.tables.substituted.Needs as need
 
 pub returns : need.returns

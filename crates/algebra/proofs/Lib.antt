@@ -1,0 +1,5 @@
+pub mod Multiples
+pub mod Linear
+pub mod Modulo
+pub mod Ring
+pub mod Residues

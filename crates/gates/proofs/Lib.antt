@@ -1,0 +1,4 @@
+pub mod Asked
+pub mod Draws
+pub mod Meeting
+pub mod Pieces

@@ -1,0 +1,59 @@
+-- A piece's key and share.
+use mathlib.Core.List.{List}
+use mathlib.Core.Bool.{Bool}
+use Prim.Native.Nat.{ℕ, _+_, _%_}
+use lib.ListN.{getD}
+use Rattle.expander.specs.Meaning.{Expansion}
+use Rattle.group.specs.Residues.{reduce}
+use Rattle.group.specs.declared.Word.{Word}
+use Rattle.group.specs.declared.Pair.{Pair}
+use Rattle.key.specs.declared.Row.{Row}
+use Rattle.key.specs.declared.BoxNumber.{BoxNumber}
+use Rattle.key.specs.Rows.{is-one}
+use Rattle.masking.specs.Masking.{size}
+use Rattle.shares.specs.Splits.{part-of-number}
+use Rattle.shares.specs.Words.{Quad, quad, quads}
+use Rattle.interval.specs.Interval.{plain}
+use Rattle.shares.specs.Piece.{piece-payload}
+use Rattle.shares.specs.Plain.{plain-piece}
+use Rattle.gatekeys.specs.Random.{root-of}
+use Rattle.gatekeys.specs.declared.ranges.Interval.{Interval}
+use Rattle.gates.specs.declared.states.Fresh.{Fresh}
+use Rattle.gates.specs.declared.interval.IntervalKey.{IntervalKey}
+use Rattle.gates.specs.declared.interval.IntervalDraws.{IntervalDraws}
+use Rattle.gates.specs.Interval.{interval-key-mean, dealt-interval, interval-rows}
+
+-- what a quad of words means
+abbrev pub quad-mean : Pair (Pair Word Word) (Pair Word Word) → Quad
+quad-mean q = quad (q .left .left .0) (q .left .right .0) (q .right .left .0) (q .right .right .0)
+
+abbrev pub fresh-mean : {G M : Type 0} → (G → M) → Fresh (IntervalKey G) → IntervalKey M
+fresh-mean mean f = interval-key-mean mean (f .key)
+
+-- words 1 to 4 are the roots, 5 to 8 box 1's part of the payload, 9 to 12 its part of E
+abbrev pub piece-draws : List ℕ → IntervalDraws Quad
+piece-draws w = record {
+  root0 = root-of (getD w 1 0) (getD w 2 0);
+  root1 = root-of (getD w 3 0) (getD w 4 0);
+  payload1 = quad (getD w 5 0) (getD w 6 0) (getD w 7 0) (getD w 8 0);
+  extra1 = quad (getD w 9 0) (getD w 10 0) (getD w 11 0) (getD w 12 0);
+}
+
+-- the payload for the coefficients c and the mask r
+abbrev pub payload-of : ℕ → List ℕ → Quad
+payload-of r c = piece-payload r (getD c 0 0) (getD c 1 0) (getD c 2 0) (getD c 3 0)
+
+-- a box's key; word 0 is the output mask, and word 13 box 1's part of it
+abbrev pub dealt-piece-key : Expansion → BoxNumber → Interval → ℕ → List ℕ → List ℕ → ℕ → IntervalKey Quad
+dealt-piece-key x b i r c w n =
+    let N : ℕ = size (i .width) in
+    dealt-interval x quads b i r (payload-of r c) (piece-draws w) (part-of-number (is-one b) N (getD w 0 0 % N) (getD w 13 0)) n
+
+abbrev pub piece-rows : Expansion → Interval → ℕ → List ℕ → List ℕ → ℕ → List (Row Quad)
+piece-rows x i r c w n = interval-rows x quads i r (payload-of r c) (piece-draws w) n
+
+-- the plain meaning at the held value m, plus the output mask
+abbrev pub piece-held : Interval → ℕ → List ℕ → List ℕ → ℕ → ℕ
+piece-held i r c w m =
+    let N : ℕ = size (i .width) in
+    (plain-piece N (i .low) (i .high) (getD c 0 0) (getD c 1 0) (getD c 2 0) (getD c 3 0) (plain N r m) + getD w 0 0 % N) % N

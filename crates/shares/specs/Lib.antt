@@ -1,0 +1,10 @@
+pub mod Words
+pub mod Splits
+pub mod Local
+pub mod Product
+pub mod Piece
+pub mod Flag
+pub mod Shifts
+pub mod Plain
+pub mod Laws
+pub mod Keyed
