@@ -10,7 +10,7 @@ use Rattle.refusal.specs.declared.Refusal.{Refusal}
 use Rattle.refusal.specs.declared.Refusal.the-variants.{PlanFields, KeyRange, KeyRows}
 use Rattle.refusal.specs.Questions.{answered}
 use Rattle.refusal.proofs.Answered.{refused-alike, answered-alike, first-yes, rest-yes}
-use Rattle.gates.specs.Questions.{row-asks, gate-asks}
+use Rattle.gates.specs.Questions.{row-asks, gate-asks, product-asks}
 
 module _ {r r' n n' : ℕ} (hr : r ≡ r') (hn : n ≡ n') where
   same-asks : row-asks r n ≡ row-asks r' n'
@@ -57,3 +57,17 @@ gate-allowed n r m k j h =
       rows0 = eqb-true k n (first-yes (eqb k n) KeyRows q3 (tt {0}) (tt {0}) h2);
       rows1 = eqb-true j n (first-yes (eqb j n) KeyRows [] (tt {0}) (tt {0}) h3);
     }
+
+-- the questions of a product
+pub product-accepted : {Y : Type 0} (n r s m k : ℕ) (u : Unit {0}) (y : Y) → Ok u ≡ answered (product-asks n r s m k) (tt {0})
+    → answered (product-asks n r s m k) y ≡ Ok y
+product-accepted n r s m k u y h = answered-alike (product-asks n r s m k) (tt {0}) u y (sym h)
+
+pub product-allowed : (n r s m k : ℕ) (u : Unit {0}) → Ok u ≡ answered (product-asks n r s m k) (tt {0}) → (r < 2 ^ n) × (s < 2 ^ n)
+product-allowed n r s m k u h =
+    let q2 : List (Bool × Refusal) = (ltb m (2 ^ n), KeyRange) ∷ (ltb k (2 ^ n), KeyRange) ∷ [] in
+    let q1 : List (Bool × Refusal) = (ltb s (2 ^ n), PlanFields) ∷ q2 in
+    let h1 = rest-yes (ltb r (2 ^ n)) PlanFields q1 (tt {0}) u (sym h) in (
+      ltb-true r (2 ^ n) (first-yes (ltb r (2 ^ n)) PlanFields q1 (tt {0}) u (sym h)),
+      ltb-true s (2 ^ n) (first-yes (ltb s (2 ^ n)) PlanFields q2 (tt {0}) u h1),
+    )

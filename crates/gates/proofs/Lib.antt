@@ -1,4 +1,9 @@
 pub mod Asked
 pub mod Draws
+pub mod FlagShares
 pub mod Meeting
 pub mod Pieces
+pub mod ShiftAsked
+pub mod ShiftDealt
+pub mod ShiftKeys
+pub mod ShiftShares

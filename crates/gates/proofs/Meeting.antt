@@ -49,10 +49,10 @@ module _ {G M : Type 0} (g : OutputGroup M) (mean : G → M) (d : Expansion) (i 
       → map (row-mean mean) rows ≡ interval-rows d g i r β dr n
       → interval-answer x g mean k rows m
       ≡ keyed.interval-answer g (is-one b) N m r (i .low) (i .high) β (dr .payload1) (dr .extra1)
-        (dealt-answer g d x n (threshold N r) β (dr .root0) (dr .root1) (is-one b) (own (is-one b)))
+      (dealt-answer g d x n (threshold N r) β (dr .root0) (dr .root1) (is-one b) (own (is-one b)))
   answer-dealt x b k rows out m hk hr =
       let at : IntervalKey M → (ℕ → M) → M = λ j f.
-          answer g (size (j .interval .width)) m (j .interval .low) (j .interval .high) (j .payload) (j .extra) f in
+      answer g (size (j .interval .width)) m (j .interval .low) (j .interval .high) (j .payload) (j .extra) f in
       let walk : IntervalKey M → List (Row M) → ℕ → M = λ j rs p. evaluated x g (λ (v : M). v) (is-one (j .number)) (j .root) rs (j .last) p in
       ap (at (interval-key-mean mean k)) (λ t p. same-evaluated x g mean (is-one (k .number)) (k .root) rows (k .last) p t)
       ∙ ap (λ rs. at (interval-key-mean mean k) (walk (interval-key-mean mean k) rs)) hr

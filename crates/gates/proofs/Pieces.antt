@@ -56,12 +56,12 @@ pieces-join d x y wide ex ey i r m cs ws hr hm k0 k1 rows0 rows1 s0 s1 hk0 hk1 h
     let K0 : IntervalKey Quad = dealt-piece-key d Zero i r cs ws n in
     let K1 : IntervalKey Quad = dealt-piece-key d One i r cs ws n in
     let e0 : s0 ≡ share-at m K0 q0 = hs0
-        ∙ ap (share-at m (interval-key-mean quad-mean k0)) (answer-dealt quads quad-mean d i r β dr x Zero k0 rows0 (K0 .out) m hk0 hr0)
-        ∙ ap (λ k. share-at m k q0) hk0 in
+    ∙ ap (share-at m (interval-key-mean quad-mean k0)) (answer-dealt quads quad-mean d i r β dr x Zero k0 rows0 (K0 .out) m hk0 hr0)
+    ∙ ap (λ k. share-at m k q0) hk0 in
     let e1 : s1 ≡ share-at m K1 q1 = hs1
-        ∙ ap (share-at m (interval-key-mean quad-mean k1)) (answer-dealt quads quad-mean d i r β dr y One k1 rows1 (K1 .out) m hk1 hr1)
-        ∙ ap (λ k. share-at m k q1) hk1 in
+    ∙ ap (share-at m (interval-key-mean quad-mean k1)) (answer-dealt quads quad-mean d i r β dr y One k1 rows1 (K1 .out) m hk1 hr1)
+    ∙ ap (λ k. share-at m k q1) hk1 in
     ap (λ s. sum-of N s s1) e0 ∙ ap (sum-of N (share-at m K0 q0)) e1
     ∙ piece-is-plain n m r (i .low) (i .high) (getD cs 0 0) (getD cs 1 0) (getD cs 2 0) (getD cs 3 0) (getD ws 0 0 % N) (getD ws 13 0)
-      (i .width .most) hm hr (i .ordered) (i .fits) (dr .payload1) (dr .extra1) f0 f1
-      (dealt-keys-join quads d x y n α β (dr .root0) (dr .root1) wide ex ey (mod-lt (r + (N - 1)) (pow-pos n)))
+    (i .width .most) hm hr (i .ordered) (i .fits) (dr .payload1) (dr .extra1) f0 f1
+    (dealt-keys-join quads d x y n α β (dr .root0) (dr .root1) wide ex ey (mod-lt (r + (N - 1)) (pow-pos n)))

@@ -18,3 +18,8 @@ row-asks rows n = (eqb rows n, KeyRows) ∷ []
 -- is the mask below N? is the held value below N? has each box's table as many rows as the width?
 abbrev pub gate-asks : ℕ → ℕ → ℕ → ℕ → ℕ → List (Bool × Refusal)
 gate-asks n r m rows0 rows1 = (ltb r (2 ^ n), PlanFields) ∷ (ltb m (2 ^ n), KeyRange) ∷ (eqb rows0 n, KeyRows) ∷ (eqb rows1 n, KeyRows) ∷ []
+
+-- are both masks below N, and both held values?
+abbrev pub product-asks : ℕ → ℕ → ℕ → ℕ → ℕ → List (Bool × Refusal)
+product-asks n r s m k =
+    (ltb r (2 ^ n), PlanFields) ∷ (ltb s (2 ^ n), PlanFields) ∷ (ltb m (2 ^ n), KeyRange) ∷ (ltb k (2 ^ n), KeyRange) ∷ []

@@ -91,14 +91,20 @@ fn extra_for<G: Group>(interval: Interval, mask: u32, payload: G) -> G
     let past = with_mask(width, mask, next);
     let wraps = once_less(to < from, low < from, payload);
     let ends = to as u64 == width.size() - 1;
-    wraps.add(once(next < past, payload)).add(once(ends, payload))
+    wraps
+        .add(once(next < past, payload))
+        .add(once(ends, payload))
 }
 
 // A box's part of an element: box 1 has what is random, box 0 the difference.
 fn part_of<G: Group>(number: BoxNumber, all: G, random: G) -> G
     ensures { λ r. ⌜ G·Group .mean r ≡ part-of-element (G·Group .group) (is-one number) (G·Group .mean all) (G·Group .mean random) ⌝ }
 {
-    if number.is_one() { random } else { difference(all, random) }
+    if number.is_one() {
+        random
+    } else {
+        difference(all, random)
+    }
 }
 
 impl<G: Group> IntervalKey<G> {
@@ -120,7 +126,9 @@ impl<G: Group> IntervalKey<G> {
         let next = after_end(width, self.interval.high());
         let at_low = self.at(expander, rows, point_for(width, m, low));
         let at_next = self.at(expander, rows, point_for(width, m, next));
-        difference(once_less(low < m, next < m, self.payload), at_low).add(at_next).add(self.extra)
+        difference(once_less(low < m, next < m, self.payload), at_low)
+            .add(at_next)
+            .add(self.extra)
     }
 }
 
@@ -146,10 +154,10 @@ pub(crate) fn deal_interval<X: Expander, G: Group>(
 ) -> Fresh<IntervalKey<G>>
     ensures key { λ r. ⌜ interval-key-mean (G·Group .mean) (r .key)
         ≡ dealt-interval (X·Expander .meaning) (G·Group .group) number interval mask (G·Group .mean payload) (draws-mean (G·Group .mean) draws) out
-            (length (now (now (rows .entry) .rows))) ⌝ }
+        (length (now (now (rows .entry) .rows))) ⌝ }
     ensures rows { λ _. ⌜ map (row-mean (G·Group .mean)) (now (now (rows .exit) .rows))
         ≡ interval-rows (X·Expander .meaning) (G·Group .group) interval mask (G·Group .mean payload) (draws-mean (G·Group .mean) draws)
-            (length (now (now (rows .entry) .rows))) ⌝ }
+        (length (now (now (rows .entry) .rows))) ⌝ }
     ensures same { λ _. ⌜ name (now (rows .exit) .rows) ≡ name (now (rows .entry) .rows) ⌝ }
 {
     let threshold = threshold_for(interval.width(), mask);

@@ -1,14 +1,26 @@
 // Gates with a key: dealing, answering and joining.
+mod flag;
 mod interval;
 mod piece;
+mod product;
 mod questions;
+mod shift;
 mod splits;
 mod states;
 
+pub use flag::deal_flag;
+pub use flag::flag_gate;
 pub use interval::IntervalDraws;
 pub use interval::IntervalKey;
 pub use piece::deal_piece;
 pub use piece::piece_gate;
+pub use product::ProductKey;
+pub use product::deal_product;
+pub use product::product_gate;
+pub use shift::ShiftKey;
+pub use shift::deal_shift;
+pub use shift::shift_gate;
+pub use shift::signed_shift_gate;
 pub use states::FlagsShared;
 pub use states::Fresh;
 pub use states::GateAnswers;

@@ -15,10 +15,10 @@ ghost use Rattle.gates.specs.Piece.{quad-mean, fresh-mean, piece-draws, dealt-
 use crate::interval::IntervalDraws;
 use crate::interval::IntervalKey;
 use crate::interval::deal_interval;
-use crate::splits::number_part;
-use crate::states::Fresh;
 use crate::questions::ask_gate;
 use crate::questions::ask_rows;
+use crate::splits::number_part;
+use crate::states::Fresh;
 use crate::states::GateAnswers;
 use crate::states::Half;
 use crate::states::QuadShared;
@@ -43,14 +43,23 @@ use std::marker::PhantomData;
 fn quad_of(a: u64, b: u64, c: u64, d: u64) -> Quad
     ensures { λ r. ⌜ quad-mean r ≡ quad a b c d ⌝ }
 {
-    Pair { left: Pair { left: Word(a), right: Word(b) }, right: Pair { left: Word(c), right: Word(d) } }
+    Pair {
+        left: Pair {
+            left: Word(a),
+            right: Word(b),
+        },
+        right: Pair {
+            left: Word(c),
+            right: Word(d),
+        },
+    }
 }
 
 // The coefficients of f(m − r), lowest first.
 fn payload_for(mask: u32, coefficients: &[u32; 4]) -> Quad
     ensures { λ r. ⌜ quad-mean r
         ≡ piece-payload mask (getD (now (coefficients .entry)) 0 0) (getD (now (coefficients .entry)) 1 0)
-            (getD (now (coefficients .entry)) 2 0) (getD (now (coefficients .entry)) 3 0) ⌝ }
+        (getD (now (coefficients .entry)) 2 0) (getD (now (coefficients .entry)) 3 0) ⌝ }
 {
     let r = mask as u64;
     let c0 = coefficients[0] as u64;
@@ -60,8 +69,11 @@ fn payload_for(mask: u32, coefficients: &[u32; 4]) -> Quad
     let square = r.wrapping_mul(r);
     let cube = square.wrapping_mul(r);
     quad_of(
-        c0.wrapping_sub(c1.wrapping_mul(r)).wrapping_add(c2.wrapping_mul(square)).wrapping_sub(c3.wrapping_mul(cube)),
-        c1.wrapping_sub(c2.wrapping_mul(2).wrapping_mul(r)).wrapping_add(c3.wrapping_mul(3).wrapping_mul(square)),
+        c0.wrapping_sub(c1.wrapping_mul(r))
+            .wrapping_add(c2.wrapping_mul(square))
+            .wrapping_sub(c3.wrapping_mul(cube)),
+        c1.wrapping_sub(c2.wrapping_mul(2).wrapping_mul(r))
+            .wrapping_add(c3.wrapping_mul(3).wrapping_mul(square)),
         c2.wrapping_sub(c3.wrapping_mul(3).wrapping_mul(r)),
         c3,
     )
@@ -91,7 +103,7 @@ fn piece_key<X: Expander>(
 ) -> Fresh<IntervalKey<Quad>>
     ensures key { λ r. ⌜ fresh-mean quad-mean r
         ≡ dealt-piece-key (X·Expander .meaning) number interval mask (now (coefficients .entry)) (now (words .entry))
-            (length (now (now (rows .entry) .rows))) ⌝ }
+        (length (now (now (rows .entry) .rows))) ⌝ }
     ensures rows { λ _. ⌜ map (row-mean quad-mean) (now (now (rows .exit) .rows))
         ≡ piece-rows (X·Expander .meaning) interval mask (now (coefficients .entry)) (now (words .entry)) (length (now (now (rows .entry) .rows))) ⌝ }
     ensures same { λ _. ⌜ name (now (rows .exit) .rows) ≡ name (now (rows .entry) .rows) ⌝ }
@@ -99,7 +111,16 @@ fn piece_key<X: Expander>(
     let width = interval.width();
     let payload = payload_for(mask, coefficients);
     let out = number_part(width, number, width.reduce(words[0]) as u64, words[13]);
-    deal_interval(expander, number, interval, mask, payload, draws_for(words), out, rows)
+    deal_interval(
+        expander,
+        number,
+        interval,
+        mask,
+        payload,
+        draws_for(words),
+        out,
+        rows,
+    )
 }
 
 // Deals one box's key of a piece, where the table has as many rows as the width; else refusal 43.
@@ -114,7 +135,7 @@ pub fn deal_piece<X: Expander>(
 ) -> Result<Fresh<IntervalKey<Quad>>, Refusal>
     ensures key { λ r. ⌜ answer-mean (fresh-mean quad-mean) r
         ≡ answered (row-asks (length (now (now (rows .entry) .rows))) (interval .width .bits))
-            (dealt-piece-key (X·Expander .meaning) number interval mask (now (coefficients .entry)) (now (words .entry)) (interval .width .bits)) ⌝ }
+        (dealt-piece-key (X·Expander .meaning) number interval mask (now (coefficients .entry)) (now (words .entry)) (interval .width .bits)) ⌝ }
     ensures rows { λ r. ⌜ RowsAfter quad-mean r (now (now (rows .entry) .rows)) (now (now (rows .exit) .rows))
         (piece-rows (X·Expander .meaning) interval mask (now (coefficients .entry)) (now (words .entry)) (interval .width .bits)) ⌝ }
     ensures same { λ _. ⌜ name (now (rows .exit) .rows) ≡ name (now (rows .entry) .rows) ⌝ }
@@ -128,8 +149,17 @@ fn share_of(width: Width, answer: Quad, m: u32, out: u32) -> u32
     ensures { λ r. ⌜ r ≡ piece-share-of (size width) m (quad-mean answer) out ⌝ }
 {
     let x = m as u64;
-    let cubic = answer.right.right.0.wrapping_mul(x).wrapping_add(answer.right.left.0);
-    let all = cubic.wrapping_mul(x).wrapping_add(answer.left.right.0).wrapping_mul(x).wrapping_add(answer.left.left.0);
+    let cubic = answer
+        .right
+        .right
+        .0
+        .wrapping_mul(x)
+        .wrapping_add(answer.right.left.0);
+    let all = cubic
+        .wrapping_mul(x)
+        .wrapping_add(answer.left.right.0)
+        .wrapping_mul(x)
+        .wrapping_add(answer.left.left.0);
     width.reduce(width.reduce(all) as u64 + out as u64)
 }
 
@@ -143,7 +173,11 @@ impl Fresh<IntervalKey<Quad>> {
         let width = self.key.interval.width();
         let answer = self.key.answer_at(expander, rows.as_slice(), m.0);
         let own = Share(share_of(width, answer, m.0, self.key.out));
-        Half { width, own, group: PhantomData }
+        Half {
+            width,
+            own,
+            group: PhantomData,
+        }
     }
 }
 
@@ -164,11 +198,27 @@ pub fn piece_gate<D: Expander, X: Expander, Y: Expander>(
     ensures { λ r. ⌜ (D·Expander .meaning ≡ X·Expander .meaning → D·Expander .meaning ≡ Y·Expander .meaning
         → answer-mean held-of r
         ≡ answered (gate-asks (interval .width .bits) mask (m .0) (length (now (now (rows0 .entry) .rows))) (length (now (now (rows1 .entry) .rows))))
-            (piece-held interval mask (now (coefficients .entry)) (now (words .entry)) (m .0))) ⌝ }
+        (piece-held interval mask (now (coefficients .entry)) (now (words .entry)) (m .0))) ⌝ }
 {
     ask_gate(interval.width(), mask, m, rows0.count(), rows1.count())?;
-    let key0 = piece_key(dealer, BoxNumber::Zero, interval, mask, coefficients, words, rows0);
-    let key1 = piece_key(dealer, BoxNumber::One, interval, mask, coefficients, words, rows1);
+    let key0 = piece_key(
+        dealer,
+        BoxNumber::Zero,
+        interval,
+        mask,
+        coefficients,
+        words,
+        rows0,
+    );
+    let key1 = piece_key(
+        dealer,
+        BoxNumber::One,
+        interval,
+        mask,
+        coefficients,
+        words,
+        rows1,
+    );
     let half0 = key0.answer_piece(box0, rows0, m);
     let half1 = key1.answer_piece(box1, rows1, m);
     Ok(exchange(half0, half1))

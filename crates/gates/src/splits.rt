@@ -12,7 +12,11 @@ pub(crate) fn number_part(width: Width, number: BoxNumber, all: u64, random: u64
     ensures { λ r. ⌜ r ≡ part-of-number (is-one number) (size width) all random ⌝ }
 {
     let drawn = width.reduce(random);
-    if number.is_one() { drawn } else { width.reduce(width.reduce(all) as u64 + (width.size() - drawn as u64)) }
+    if number.is_one() {
+        drawn
+    } else {
+        width.reduce(width.reduce(all) as u64 + (width.size() - drawn as u64))
+    }
 }
 
 // A random word as flags: its low half.

@@ -85,7 +85,10 @@ impl<G: Shared> Half<G> {
     pub fn join(self, other: Share) -> Joined<G>
         ensures { λ r. ⌜ r .held .0 ≡ G·Shared .together (size (self .width)) (self .own .0) (other .0) ⌝ }
     {
-        Joined { held: G::join_shares(self.width, self.own, other), group: PhantomData }
+        Joined {
+            held: G::join_shares(self.width, self.own, other),
+            group: PhantomData,
+        }
     }
 }
 
@@ -114,5 +117,9 @@ pub(crate) fn exchange<G: Shared>(half0: Half<G>, half1: Half<G>) -> GateAnswers
     let share0 = half0.share();
     let share1 = half1.share();
     let held = half0.join(share1).held();
-    GateAnswers { share0, share1, held }
+    GateAnswers {
+        share0,
+        share1,
+        held,
+    }
 }

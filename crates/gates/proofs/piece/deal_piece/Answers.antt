@@ -14,7 +14,7 @@ returns-in-Break-ask-rows g c =
     let p = err-from-errBy (c .from-residual .result) (c .from-residual .ensures .1) in
     record {
       key = ap (answer-mean (fresh-mean quad-mean)) (p .1)
-        ∙ sym (rows-refused (c .count .ensures) (ap (λ w. w .bits) (c .width .ensures)) (p .0) _ (ap Err (p .2) ∙ c .in-Break-ask-rows .ensures tt));
+          ∙ sym (rows-refused (c .count .ensures) (ap (λ w. w .bits) (c .width .ensures)) (p .0) _ (ap Err (p .2) ∙ c .in-Break-ask-rows .ensures tt));
       rows = rw (p .1) refl;
       same = refl;
     }
@@ -35,7 +35,7 @@ returns g c =
     let said = c .piece-key .ensures in
     record {
       key = ap Ok (said .key ∙ ap (dealt-piece-key x b i r cs ws) all)
-        ∙ sym (rows-accepted (c .count .ensures) bits u (dealt-piece-key x b i r cs ws (i .width .bits)) asked);
+          ∙ sym (rows-accepted (c .count .ensures) bits u (dealt-piece-key x b i r cs ws (i .width .bits)) asked);
       rows = said .rows ∙ ap (piece-rows x i r cs ws) all;
       same = said .same;
     }

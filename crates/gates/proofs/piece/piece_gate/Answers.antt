@@ -19,8 +19,8 @@ returns-in-Break-ask-gate g c ex ey =
     let p = err-from-errBy (c .from-residual .result) (c .from-residual .ensures .1) in
     ap (answer-mean held-of) (p .1)
     ∙ sym (gate-refused (c .args .mask) (c .args .m .0) (ap (λ w. w .bits) (c .width .ensures)) (c .count .ensures) (c .count-2 .ensures) (p .0)
-      (piece-held (c .args .interval) (c .args .mask) (c .args .coefficients .now) (c .args .words .now) (c .args .m .0))
-      (ap Err (p .2) ∙ c .in-Break-ask-gate .ensures tt))
+    (piece-held (c .args .interval) (c .args .mask) (c .args .coefficients .now) (c .args .words .now) (c .args .m .0))
+    (ap Err (p .2) ∙ c .in-Break-ask-gate .ensures tt))
 
 pub returns : need.returns
 returns g c ex ey =
@@ -44,13 +44,13 @@ returns g c ex ey =
     let half1 = c .answer-piece-half1 in
     let width : half0 .result .width ≡ i .width = half0 .ensures .width ∙ ap (λ k. k .interval .width) (key0 .ensures .key) in
     ap Ok (c .exchange .ensures .held
-      ∙ ap (λ w. sum-of (size w) (half0 .result .own .0) (half1 .result .own .0)) width
-      ∙ pieces-join d x y (g .D·Expander·met .wide) ex ey i r m cs ws (fine .mask) (fine .held)
-        (key0 .result .key) (key1 .result .key) (now (key0 .last .rows .rows)) (now (key1 .last .rows .rows))
-        (half0 .result .own .0) (half1 .result .own .0)
-        (key0 .ensures .key ∙ ap (dealt-piece-key d Zero i r cs ws) (fine .rows0))
-        (key1 .ensures .key ∙ ap (dealt-piece-key d One i r cs ws) (fine .rows1))
-        (key0 .ensures .rows ∙ ap (piece-rows d i r cs ws) (fine .rows0))
-        (key1 .ensures .rows ∙ ap (piece-rows d i r cs ws) (fine .rows1))
-        (half0 .ensures .share) (half1 .ensures .share))
+    ∙ ap (λ w. sum-of (size w) (half0 .result .own .0) (half1 .result .own .0)) width
+    ∙ pieces-join d x y (g .D·Expander·met .wide) ex ey i r m cs ws (fine .mask) (fine .held)
+    (key0 .result .key) (key1 .result .key) (now (key0 .last .rows .rows)) (now (key1 .last .rows .rows))
+    (half0 .result .own .0) (half1 .result .own .0)
+    (key0 .ensures .key ∙ ap (dealt-piece-key d Zero i r cs ws) (fine .rows0))
+    (key1 .ensures .key ∙ ap (dealt-piece-key d One i r cs ws) (fine .rows1))
+    (key0 .ensures .rows ∙ ap (piece-rows d i r cs ws) (fine .rows0))
+    (key1 .ensures .rows ∙ ap (piece-rows d i r cs ws) (fine .rows1))
+    (half0 .ensures .share) (half1 .ensures .share))
     ∙ sym (gate-accepted r m bits (c .count .ensures) (c .count-2 .ensures) u (piece-held i r cs ws m) asked)

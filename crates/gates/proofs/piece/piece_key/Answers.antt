@@ -21,8 +21,8 @@ returns g c =
     let n : ℕ = length (now (c .args .rows .now .rows)) in
     let mask = c .reduce .ensures ∙ ap (λ t. getD ws 0 0 % size t) w in
     let out = c .number-part-out .ensures
-        ∙ ap (λ t. part-of-number (is-one b) (size t) (c .reduce .result) (getD ws 13 0)) w
-        ∙ ap (λ t. part-of-number (is-one b) N t (getD ws 13 0)) mask in
+    ∙ ap (λ t. part-of-number (is-one b) (size t) (c .reduce .result) (getD ws 13 0)) w
+    ∙ ap (λ t. part-of-number (is-one b) N t (getD ws 13 0)) mask in
     let said = c .deal-interval .ensures in
     record {
       key = said .key ∙ key-alike x quads i r n (c .payload-for-payload .ensures) (c .draws-for .ensures) b out;

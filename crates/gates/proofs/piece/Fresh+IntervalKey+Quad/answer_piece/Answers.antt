@@ -15,8 +15,8 @@ returns g c =
     let share = piece-share-of (size (k .interval .width)) m in
     record {
       share = c .share-of .ensures
-        ∙ ap (λ w. piece-share-of (size w) m (quad-mean (c .answer-at-answer .result)) (k .out)) (c .width-width .ensures)
-        ∙ ap (λ q. share q (k .out)) (c .answer-at-answer .ensures)
-        ∙ ap (λ rs. share (interval-answer x quads quad-mean k rs m) (k .out)) (c .as-slice .ensures);
+          ∙ ap (λ w. piece-share-of (size w) m (quad-mean (c .answer-at-answer .result)) (k .out)) (c .width-width .ensures)
+          ∙ ap (λ q. share q (k .out)) (c .answer-at-answer .ensures)
+          ∙ ap (λ rs. share (interval-answer x quads quad-mean k rs m) (k .out)) (c .as-slice .ensures);
       width = c .width-width .ensures;
     }

@@ -1,0 +1,53 @@
+use mathlib.Core.Path.{_≡_, sym, ap, _∙_}
+use Prim.Native.Nat.{ℕ}
+use borrow.Author.Needs.{needs}
+use denote.Ref.{now}
+use lib.ListN.{length}
+use Rattle.std.specs.declared.result.Result.the-variants.{Ok, Err}
+use Rattle.std.proofs.shelf.Results.{err-from-errBy}
+use Rattle.key.specs.declared.BoxNumber.the-variants.{Zero, One}
+use Rattle.comparison.specs.Comparison.{answer-mean}
+use Rattle.gates.specs.Questions.{held-of}
+use Rattle.gates.specs.Flag.{dealt-flag-key, flag-rows, flag-held}
+use Rattle.gates.proofs.Asked.{gate-refused, gate-accepted, gate-allowed}
+use Rattle.gates.proofs.FlagShares.{flags-join}
+use Rattle.gates.proofs.flag.flag_gate.Needs as need
+
+pub returns-in-Break-ask-gate : need.returns-in-Break-ask-gate
+returns-in-Break-ask-gate g c ex ey =
+    let p = err-from-errBy (c .from-residual .result) (c .from-residual .ensures .1) in
+    ap (answer-mean held-of) (p .1)
+    ∙ sym (gate-refused (c .args .mask) (c .args .m .0) (ap (λ w. w .bits) (c .width .ensures)) (c .count .ensures) (c .count-2 .ensures) (p .0)
+    (flag-held (c .args .interval) (c .args .mask) (c .args .pattern) (c .args .words .now) (c .args .m .0))
+    (ap Err (p .2) ∙ c .in-Break-ask-gate .ensures tt))
+
+pub returns : need.returns
+returns g c ex ey =
+    let d = g .D·Expander .meaning in
+    let x = g .X·Expander .meaning in
+    let y = g .Y·Expander .meaning in
+    let i = c .args .interval in
+    let r : ℕ = c .args .mask in
+    let m : ℕ = c .args .m .0 in
+    let pattern : ℕ = c .args .pattern in
+    let ws = c .args .words .now in
+    let bits = ap (λ w. w .bits) (c .width .ensures) in
+    let u = c .in-Continue-ask-gate .field-0 in
+    let asked = c .in-Continue-ask-gate .ensures tt in
+    let n0 : ℕ = length (now (c .args .rows0 .now .rows)) in
+    let n1 : ℕ = length (now (c .args .rows1 .now .rows)) in
+    let fine = gate-allowed (i .width .bits) r m n0 n1 (gate-accepted r m bits (c .count .ensures) (c .count-2 .ensures) u (tt {0}) asked) in
+    let key0 = c .flag-key-key0 in
+    let key1 = c .flag-key-key1 in
+    let half0 = c .answer-flag-half0 in
+    let half1 = c .answer-flag-half1 in
+    ap Ok (c .exchange .ensures .held
+    ∙ flags-join d x y (g .D·Expander·met .wide) ex ey i r m pattern ws (fine .mask) (fine .held) (search needs)
+    (key0 .result .key) (key1 .result .key) (now (key0 .last .rows .rows)) (now (key1 .last .rows .rows))
+    (half0 .result .own .0) (half1 .result .own .0)
+    (key0 .ensures .key ∙ ap (dealt-flag-key d Zero i r pattern ws) (fine .rows0))
+    (key1 .ensures .key ∙ ap (dealt-flag-key d One i r pattern ws) (fine .rows1))
+    (key0 .ensures .rows ∙ ap (flag-rows d i r pattern ws) (fine .rows0))
+    (key1 .ensures .rows ∙ ap (flag-rows d i r pattern ws) (fine .rows1))
+    (half0 .ensures) (half1 .ensures))
+    ∙ sym (gate-accepted r m bits (c .count .ensures) (c .count-2 .ensures) u (flag-held i r pattern ws m) asked)

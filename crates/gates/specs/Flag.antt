@@ -1,0 +1,47 @@
+-- A flag gate's key, and what both boxes come to.
+use mathlib.Core.List.{List}
+use Prim.Native.Nat.{ℕ, _%_, _^_}
+use lib.Bits.{bitXor}
+use lib.ListN.{getD}
+use Rattle.expander.specs.Meaning.{Expansion}
+use Rattle.group.specs.Residues.{Residue, reduce}
+use Rattle.group.specs.Flags.{flags}
+use Rattle.group.specs.declared.Flags.{Flags}
+use Rattle.key.specs.declared.Row.{Row}
+use Rattle.key.specs.declared.BoxNumber.{BoxNumber}
+use Rattle.key.specs.Rows.{is-one}
+use Rattle.masking.specs.Masking.{size}
+use Rattle.interval.specs.Interval.{plain}
+use Rattle.shares.specs.Splits.{part-of-flags}
+use Rattle.shares.specs.Words.{flag-word}
+use Rattle.shares.specs.Plain.{plain-flag}
+use Rattle.gatekeys.specs.Random.{root-of}
+use Rattle.gatekeys.specs.declared.ranges.Interval.{Interval}
+use Rattle.gates.specs.declared.interval.IntervalKey.{IntervalKey}
+use Rattle.gates.specs.declared.interval.IntervalDraws.{IntervalDraws}
+use Rattle.gates.specs.Interval.{dealt-interval, interval-rows}
+
+-- what flags mean
+abbrev pub flag-mean : Flags → Residue (2 ^ 32)
+flag-mean f = flag-word (f .0)
+
+-- words 1 to 4 are the roots, 5 box 1's part of the payload, 6 its part of E: low halves
+abbrev pub flag-draws : List ℕ → IntervalDraws (Residue (2 ^ 32))
+flag-draws w = record {
+  root0 = root-of (getD w 1 0) (getD w 2 0);
+  root1 = root-of (getD w 3 0) (getD w 4 0);
+  payload1 = flag-word (getD w 5 0 % 2 ^ 32);
+  extra1 = flag-word (getD w 6 0 % 2 ^ 32);
+}
+
+-- a box's key; word 0 is the output mask, and word 7 box 1's part of it
+abbrev pub dealt-flag-key : Expansion → BoxNumber → Interval → ℕ → ℕ → List ℕ → ℕ → IntervalKey (Residue (2 ^ 32))
+dealt-flag-key x b i r pattern w n =
+    dealt-interval x flags b i r (flag-word pattern) (flag-draws w) (part-of-flags (is-one b) (getD w 0 0 % 2 ^ 32) (getD w 7 0)) n
+
+abbrev pub flag-rows : Expansion → Interval → ℕ → ℕ → List ℕ → ℕ → List (Row (Residue (2 ^ 32)))
+flag-rows x i r pattern w n = interval-rows x flags i r (flag-word pattern) (flag-draws w) n
+
+-- the plain meaning at the held value m, XOR the output mask
+abbrev pub flag-held : Interval → ℕ → ℕ → List ℕ → ℕ → ℕ
+flag-held i r pattern w m = bitXor (plain-flag (i .low) (i .high) pattern (plain (size (i .width)) r m)) (getD w 0 0 % 2 ^ 32)

@@ -1,0 +1,114 @@
+// The product gate.
+ghost use mathlib.Core.Path.{_≡_};
+ghost use mathlib.Core.Bool.{cond};
+ghost use Rattle.refusal.specs.Questions.{answered};
+ghost use Rattle.key.specs.Rows.{is-one};
+ghost use Rattle.masking.specs.Masking.{size};
+ghost use Rattle.comparison.specs.Comparison.{answer-mean};
+ghost use Rattle.shares.specs.Product.{product-share};
+ghost use Rattle.gates.specs.Questions.{held-of, product-asks};
+ghost use Rattle.gates.specs.Product.{dealt-product, product-held};
+use crate::questions::ask_product;
+use crate::splits::number_part;
+use crate::states::Fresh;
+use crate::states::GateAnswers;
+use crate::states::Half;
+use crate::states::WordShared;
+use crate::states::exchange;
+use group::Word;
+use key::BoxNumber;
+use masking::Masked;
+use masking::Share;
+use masking::Width;
+use refusal::Refusal;
+use std::marker::PhantomData;
+
+// One box's key of a product: its parts of both masks, and of their product plus the output mask.
+#[derive(Drop)]
+pub struct ProductKey {
+    pub(crate) number: BoxNumber,
+    pub(crate) width: Width,
+    pub(crate) a: u32,
+    pub(crate) b: u32,
+    pub(crate) c: u32,
+}
+
+// Deals one box's key of a product of two wires with these masks.
+pub fn deal_product(
+    number: BoxNumber,
+    width: Width,
+    mask_a: u32,
+    mask_b: u32,
+    words: &[u64; 4],
+) -> Fresh<ProductKey>
+    ensures { λ r. ⌜ r .key ≡ dealt-product number width «mask_a» «mask_b» (now (words .entry)) ⌝ }
+{
+    let out = width.reduce(words[0]);
+    let product = mask_a as u64 * mask_b as u64;
+    let key = ProductKey {
+        number,
+        width,
+        a: number_part(width, number, mask_a as u64, words[1]),
+        b: number_part(width, number, mask_b as u64, words[2]),
+        c: number_part(width, number, product + out as u64, words[3]),
+    };
+    Fresh { key }
+}
+
+// A number once, or not at all.
+fn once(yes: bool, number: u64) -> u64
+    ensures { λ r. ⌜ r ≡ cond yes number 0 ⌝ }
+{
+    if yes { number } else { 0 }
+}
+
+// C − m × B − k × A, to which box 1 adds m × k.
+fn share_of(key: &ProductKey, m: u32, k: u32) -> u32
+    ensures { λ r. ⌜ r ≡ product-share (is-one (now (key .entry) .number)) (size (now (key .entry) .width)) m k
+        (now (key .entry) .a) (now (key .entry) .b) (now (key .entry) .c) ⌝ }
+{
+    let width = key.width;
+    let size = width.size();
+    let mb = width.reduce(m as u64 * key.b as u64) as u64;
+    let ka = width.reduce(k as u64 * key.a as u64) as u64;
+    let mk = width.reduce(once(key.number.is_one(), m as u64 * k as u64)) as u64;
+    width.reduce(key.c as u64 + mk + (size - mb) + (size - ka))
+}
+
+impl Fresh<ProductKey> {
+    // A box's share at the held values m and k. The key is used up.
+    pub fn answer_product(self, m: Masked, k: Masked) -> Half<Word>
+        ensures share { λ r. ⌜ r .own .0 ≡ product-share (is-one (self .key .number)) (size (self .key .width)) (m .0) (k .0)
+            (self .key .a) (self .key .b) (self .key .c) ⌝ }
+        ensures width { λ r. ⌜ r .width ≡ self .key .width ⌝ }
+    {
+        let width = self.key.width;
+        let own = Share(share_of(&self.key, m.0, k.0));
+        Half {
+            width,
+            own,
+            group: PhantomData,
+        }
+    }
+}
+
+// Deals a product, answers at both boxes at the held values m and k, and joins the shares: the join is the product of the
+// plain values plus the output mask.
+pub fn product_gate(
+    width: Width,
+    mask_a: u32,
+    mask_b: u32,
+    words: &[u64; 4],
+    m: Masked,
+    k: Masked,
+) -> Result<GateAnswers, Refusal>
+    ensures { λ r. ⌜ answer-mean held-of r
+        ≡ answered (product-asks (width .bits) «mask_a» «mask_b» (m .0) (k .0)) (product-held width «mask_a» «mask_b» (now (words .entry)) (m .0) (k .0)) ⌝ }
+{
+    ask_product(width, mask_a, mask_b, m, k)?;
+    let key0 = deal_product(BoxNumber::Zero, width, mask_a, mask_b, words);
+    let key1 = deal_product(BoxNumber::One, width, mask_a, mask_b, words);
+    let half0 = key0.answer_product(m, k);
+    let half1 = key1.answer_product(m, k);
+    Ok(exchange(half0, half1))
+}

@@ -1,0 +1,406 @@
+// The shifts: two comparison keys in words, a low one on the bits that go and a high one on all.
+ghost use mathlib.Core.Path.{_≡_};
+ghost use mathlib.Core.Bool.{cond};
+ghost use mathlib.Core.List.{map};
+ghost use Prim.Native.Nat.{_+_, _-_, _%_, _/_, _^_, _<_};
+ghost use lib.ListN.{length};
+ghost use denote.Ref.{name};
+ghost use Rattle.refusal.specs.Questions.{answered};
+ghost use Rattle.key.specs.Rows.{row-mean, is-one};
+ghost use Rattle.masking.specs.Masking.{size};
+ghost use Rattle.comparison.specs.Comparison.{answer-mean, RowsAfter};
+ghost use Rattle.shares.specs.Shifts.{shift-rest, signed-held};
+ghost use Rattle.gates.specs.Questions.{held-of};
+ghost use Rattle.gates.specs.ShiftQuestions.{shift-row-asks, shift-asks};
+ghost use Rattle.gates.specs.Shift.{step-of, word-mean, fresh-shift-mean, dealt-shift-key, low-rows-of, high-rows-of, low-at, high-at, shift-share-at, signed-share-at, shift-held, signed-shift-held};
+use crate::interval::own_root;
+use crate::questions::ask_shift;
+use crate::questions::ask_shift_rows;
+use crate::splits::number_part;
+use crate::states::Fresh;
+use crate::states::GateAnswers;
+use crate::states::Half;
+use crate::states::WordShared;
+use crate::states::exchange;
+use dealing::deal;
+use evaluation::answer;
+use expander::Expander;
+use expander::Seed;
+use gatekeys::Shift;
+use gatekeys::root_from;
+use group::Group;
+use group::Word;
+use group::WordGroup;
+use key::BoxNumber;
+use key::Row;
+use key::Rows;
+use masking::Masked;
+use masking::Share;
+use masking::Width;
+use refusal::Refusal;
+use std::marker::PhantomData;
+
+// One box's key of a shift, but for the rows of its two comparison keys, which stand in the caller's tables.
+#[derive(Drop)]
+pub struct ShiftKey<G> {
+    pub(crate) number: BoxNumber,
+    pub(crate) shift: Shift,
+    pub(crate) low_root: Seed,
+    pub(crate) low_last: G,
+    pub(crate) high_root: Seed,
+    pub(crate) high_last: G,
+    pub(crate) rest: u32,
+}
+
+// S: how many numbers one step of the shift holds.
+fn step_size(shift: Shift) -> u64
+    ensures { λ r. ⌜ r ≡ step-of shift ⌝ }
+{
+    1u64 << shift.by()
+}
+
+// The output mask less floor(r / S).
+fn rest_for(shift: Shift, mask: u32, out: u32) -> u64
+    ensures { λ r. ⌜ r ≡ shift-rest (size (shift .width)) (step-of shift) mask out ⌝ }
+{
+    out as u64
+        + shift
+            .width()
+            .size()
+            .saturating_sub(mask as u64 / step_size(shift))
+}
+
+// The low key's threshold.
+fn low_bits(shift: Shift, number: u32) -> u32
+    ensures { λ r. ⌜ r ≡ number % step-of shift ⌝ }
+{
+    (number as u64 % step_size(shift)) as u32
+}
+
+// The high key's payload: how many steps there are.
+fn step_count(shift: Shift) -> u64
+    ensures { λ r. ⌜ r ≡ size (shift .width) / step-of shift ⌝ }
+{
+    shift.width().size() / step_size(shift)
+}
+
+// One box's key of a shift on a wire with this mask: the rows into the two tables, the rest as the fresh key.
+fn shift_key<X: Expander>(
+    expander: &X,
+    number: BoxNumber,
+    shift: Shift,
+    mask: u32,
+    words: &[u64; 10],
+    low: &mut Rows<Word>,
+    high: &mut Rows<Word>,
+) -> Fresh<ShiftKey<Word>>
+    ensures key { λ r. ⌜ fresh-shift-mean word-mean r
+        ≡ dealt-shift-key (X·Expander .meaning) number shift mask (now (words .entry))
+        (length (now (now (low .entry) .rows))) (length (now (now (high .entry) .rows))) ⌝ }
+    ensures low { λ _. ⌜ map (row-mean word-mean) (now (now (low .exit) .rows))
+        ≡ low-rows-of (X·Expander .meaning) shift mask (now (words .entry)) (length (now (now (low .entry) .rows))) ⌝ }
+    ensures high { λ _. ⌜ map (row-mean word-mean) (now (now (high .exit) .rows))
+        ≡ high-rows-of (X·Expander .meaning) shift mask (now (words .entry)) (length (now (now (high .entry) .rows))) ⌝ }
+    ensures same_low { λ _. ⌜ name (now (low .exit) .rows) ≡ name (now (low .entry) .rows) ⌝ }
+    ensures same_high { λ _. ⌜ name (now (high .exit) .rows) ≡ name (now (high .entry) .rows) ⌝ }
+{
+    let width = shift.width();
+    let low0 = root_from(words[1], words[2]);
+    let low1 = root_from(words[3], words[4]);
+    let high0 = root_from(words[5], words[6]);
+    let high1 = root_from(words[7], words[8]);
+    let low_last = deal(
+        expander,
+        low_bits(shift, mask),
+        Word(u64::MAX),
+        low0,
+        low1,
+        low,
+    );
+    let high_last = deal(expander, mask, Word(step_count(shift)), high0, high1, high);
+    let rest = number_part(
+        width,
+        number,
+        rest_for(shift, mask, width.reduce(words[0])),
+        words[9],
+    );
+    let low_root = own_root(number, low0, low1);
+    let high_root = own_root(number, high0, high1);
+    Fresh {
+        key: ShiftKey {
+            number,
+            shift,
+            low_root,
+            low_last,
+            high_root,
+            high_last,
+            rest,
+        },
+    }
+}
+
+// Deals one box's key of a shift, where the low table has as many rows as the shift and the high one as the width; else
+// refusal 43.
+pub fn deal_shift<X: Expander>(
+    expander: &X,
+    number: BoxNumber,
+    shift: Shift,
+    mask: u32,
+    words: &[u64; 10],
+    low: &mut Rows<Word>,
+    high: &mut Rows<Word>,
+) -> Result<Fresh<ShiftKey<Word>>, Refusal>
+    ensures key { λ r. ⌜ answer-mean (fresh-shift-mean word-mean) r
+        ≡ answered (shift-row-asks shift (length (now (now (low .entry) .rows))) (length (now (now (high .entry) .rows))))
+        (dealt-shift-key (X·Expander .meaning) number shift mask (now (words .entry)) (shift .by) (shift .width .bits)) ⌝ }
+    ensures low { λ r. ⌜ RowsAfter word-mean r (now (now (low .entry) .rows)) (now (now (low .exit) .rows))
+        (low-rows-of (X·Expander .meaning) shift mask (now (words .entry)) (shift .by)) ⌝ }
+    ensures high { λ r. ⌜ RowsAfter word-mean r (now (now (high .entry) .rows)) (now (now (high .exit) .rows))
+        (high-rows-of (X·Expander .meaning) shift mask (now (words .entry)) (shift .width .bits)) ⌝ }
+    ensures same_low { λ _. ⌜ name (now (low .exit) .rows) ≡ name (now (low .entry) .rows) ⌝ }
+    ensures same_high { λ _. ⌜ name (now (high .exit) .rows) ≡ name (now (high .entry) .rows) ⌝ }
+{
+    ask_shift_rows(shift, low.count(), high.count())?;
+    Ok(shift_key(expander, number, shift, mask, words, low, high))
+}
+
+// The quotient by one step.
+fn steps_in(shift: Shift, number: u32) -> u64
+    ensures is { λ r. ⌜ r ≡ number / step-of shift ⌝ }
+    ensures small { λ r. ⌜ r < 2 ^ 32 ⌝ }
+{
+    number as u64 / step_size(shift)
+}
+
+// What box 1 adds to a shift: floor(m / S).
+fn more_for(number: BoxNumber, shift: Shift, m: u32) -> u64
+    ensures is { λ r. ⌜ r ≡ cond (is-one number) (m / step-of shift) 0 ⌝ }
+    ensures small { λ r. ⌜ r < 2 ^ 34 ⌝ }
+{
+    if number.is_one() {
+        steps_in(shift, m)
+    } else {
+        0
+    }
+}
+
+// What box 1 adds to a signed shift: floor(k / S) less the steps of one half.
+fn signed_more_for(number: BoxNumber, shift: Shift, k: u32) -> u64
+    ensures is { λ r. ⌜ r ≡ cond (is-one number) (k / step-of shift + (size (shift .width) - size (shift .width) / 2 / step-of shift)) 0 ⌝ }
+    ensures small { λ r. ⌜ r < 2 ^ 34 ⌝ }
+{
+    let size = shift.width().size();
+    let half = size / 2 / step_size(shift);
+    if number.is_one() {
+        steps_in(shift, k) + size.saturating_sub(half)
+    } else {
+        0
+    }
+}
+
+// Two answers, the rest, and what box 1 adds, modulo N.
+fn share_of(width: Width, low: Word, high: Word, rest: u32, more: u64) -> u32
+    requires { ⌜ more < 2 ^ 34 ⌝ }
+    ensures { λ r. ⌜ r ≡ (word-mean low .0 % size width + word-mean high .0 % size width + rest + more) % size width ⌝ }
+{
+    width.reduce(width.reduce(low.0) as u64 + width.reduce(high.0) as u64 + rest as u64 + more)
+}
+
+// The held value that a signed shift's keys are asked about.
+fn signed_point(width: Width, m: u32) -> u32
+    ensures { λ r. ⌜ r ≡ signed-held (size width) m ⌝ }
+{
+    width.reduce(m as u64 + width.size() / 2)
+}
+
+impl ShiftKey<Word> {
+    fn low_answer<X: Expander>(&self, expander: &X, rows: &[Row<Word>], point: u32) -> Word
+        ensures { λ r. ⌜ word-mean r ≡ low-at (X·Expander .meaning) word-mean (now (self .entry)) (now (rows .entry)) point ⌝ }
+    {
+        answer(
+            expander,
+            self.number,
+            self.low_root,
+            rows,
+            self.low_last,
+            point,
+        )
+    }
+
+    fn high_answer<X: Expander>(&self, expander: &X, rows: &[Row<Word>], point: u32) -> Word
+        ensures { λ r. ⌜ word-mean r ≡ high-at (X·Expander .meaning) word-mean (now (self .entry)) (now (rows .entry)) point ⌝ }
+    {
+        answer(
+            expander,
+            self.number,
+            self.high_root,
+            rows,
+            self.high_last,
+            point,
+        )
+    }
+
+    fn shift_share<X: Expander>(
+        &self,
+        expander: &X,
+        low: &[Row<Word>],
+        high: &[Row<Word>],
+        m: u32,
+    ) -> u32
+        ensures { λ r. ⌜ r ≡ shift-share-at (X·Expander .meaning) word-mean (now (self .entry)) (now (low .entry)) (now (high .entry)) m ⌝ }
+    {
+        let at_low = self.low_answer(expander, low, low_bits(self.shift, m));
+        let at_high = self.high_answer(expander, high, m);
+        share_of(
+            self.shift.width(),
+            at_low,
+            at_high,
+            self.rest,
+            more_for(self.number, self.shift, m),
+        )
+    }
+
+    fn signed_share<X: Expander>(
+        &self,
+        expander: &X,
+        low: &[Row<Word>],
+        high: &[Row<Word>],
+        m: u32,
+    ) -> u32
+        ensures { λ r. ⌜ r ≡ signed-share-at (X·Expander .meaning) word-mean (now (self .entry)) (now (low .entry)) (now (high .entry)) m ⌝ }
+    {
+        let k = signed_point(self.shift.width(), m);
+        let at_low = self.low_answer(expander, low, low_bits(self.shift, k));
+        let at_high = self.high_answer(expander, high, k);
+        share_of(
+            self.shift.width(),
+            at_low,
+            at_high,
+            self.rest,
+            signed_more_for(self.number, self.shift, k),
+        )
+    }
+}
+
+impl Fresh<ShiftKey<Word>> {
+    // A box's share of a shift at the held value m. The key is used up.
+    pub fn answer_shift<X: Expander>(
+        self,
+        expander: &X,
+        low: &Rows<Word>,
+        high: &Rows<Word>,
+        m: Masked,
+    ) -> Half<Word>
+        ensures share { λ r. ⌜ r .own .0
+            ≡ shift-share-at (X·Expander .meaning) word-mean (self .key) (now (now (low .entry) .rows)) (now (now (high .entry) .rows)) (m .0) ⌝ }
+        ensures width { λ r. ⌜ r .width ≡ self .key .shift .width ⌝ }
+    {
+        let width = self.key.shift.width();
+        let own = Share(
+            self.key
+                .shift_share(expander, low.as_slice(), high.as_slice(), m.0),
+        );
+        Half {
+            width,
+            own,
+            group: PhantomData,
+        }
+    }
+
+    // A box's share of a signed shift at the held value m. The key is used up.
+    pub fn answer_signed_shift<X: Expander>(
+        self,
+        expander: &X,
+        low: &Rows<Word>,
+        high: &Rows<Word>,
+        m: Masked,
+    ) -> Half<Word>
+        ensures share { λ r. ⌜ r .own .0
+            ≡ signed-share-at (X·Expander .meaning) word-mean (self .key) (now (now (low .entry) .rows)) (now (now (high .entry) .rows)) (m .0) ⌝ }
+        ensures width { λ r. ⌜ r .width ≡ self .key .shift .width ⌝ }
+    {
+        let width = self.key.shift.width();
+        let own = Share(
+            self.key
+                .signed_share(expander, low.as_slice(), high.as_slice(), m.0),
+        );
+        Half {
+            width,
+            own,
+            group: PhantomData,
+        }
+    }
+}
+
+// A dealer and two boxes, each with an expander of its own: deals a shift, answers at both boxes at the held value m, and
+// joins the shares. Where the three expanders have one meaning and kind, the join is the plain meaning plus the output mask.
+pub fn shift_gate<D: Expander, X: Expander, Y: Expander>(
+    dealer: &D,
+    box0: &X,
+    box1: &Y,
+    shift: Shift,
+    mask: u32,
+    words: &[u64; 10],
+    low0: &mut Rows<Word>,
+    high0: &mut Rows<Word>,
+    low1: &mut Rows<Word>,
+    high1: &mut Rows<Word>,
+    m: Masked,
+) -> Result<GateAnswers, Refusal>
+    ensures { λ r. ⌜ (D·Expander .meaning ≡ X·Expander .meaning → D·Expander .meaning ≡ Y·Expander .meaning
+        → answer-mean held-of r
+        ≡ answered (shift-asks shift mask (m .0) (length (now (now (low0 .entry) .rows))) (length (now (now (high0 .entry) .rows)))
+        (length (now (now (low1 .entry) .rows))) (length (now (now (high1 .entry) .rows))))
+        (shift-held shift mask (now (words .entry)) (m .0))) ⌝ }
+{
+    ask_shift(
+        shift,
+        mask,
+        m,
+        low0.count(),
+        high0.count(),
+        low1.count(),
+        high1.count(),
+    )?;
+    let key0 = shift_key(dealer, BoxNumber::Zero, shift, mask, words, low0, high0);
+    let key1 = shift_key(dealer, BoxNumber::One, shift, mask, words, low1, high1);
+    let half0 = key0.answer_shift(box0, low0, high0, m);
+    let half1 = key1.answer_shift(box1, low1, high1, m);
+    Ok(exchange(half0, half1))
+}
+
+// The same for a signed shift.
+pub fn signed_shift_gate<D: Expander, X: Expander, Y: Expander>(
+    dealer: &D,
+    box0: &X,
+    box1: &Y,
+    shift: Shift,
+    mask: u32,
+    words: &[u64; 10],
+    low0: &mut Rows<Word>,
+    high0: &mut Rows<Word>,
+    low1: &mut Rows<Word>,
+    high1: &mut Rows<Word>,
+    m: Masked,
+) -> Result<GateAnswers, Refusal>
+    ensures { λ r. ⌜ (D·Expander .meaning ≡ X·Expander .meaning → D·Expander .meaning ≡ Y·Expander .meaning
+        → answer-mean held-of r
+        ≡ answered (shift-asks shift mask (m .0) (length (now (now (low0 .entry) .rows))) (length (now (now (high0 .entry) .rows)))
+        (length (now (now (low1 .entry) .rows))) (length (now (now (high1 .entry) .rows))))
+        (signed-shift-held shift mask (now (words .entry)) (m .0))) ⌝ }
+{
+    ask_shift(
+        shift,
+        mask,
+        m,
+        low0.count(),
+        high0.count(),
+        low1.count(),
+        high1.count(),
+    )?;
+    let key0 = shift_key(dealer, BoxNumber::Zero, shift, mask, words, low0, high0);
+    let key1 = shift_key(dealer, BoxNumber::One, shift, mask, words, low1, high1);
+    let half0 = key0.answer_signed_shift(box0, low0, high0, m);
+    let half1 = key1.answer_signed_shift(box1, low1, high1, m);
+    Ok(exchange(half0, half1))
+}
