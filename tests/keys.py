@@ -167,4 +167,5 @@ def main():
     write(crate("wukraslo", "stdout"), example())
 
 
-main()
+if __name__ == "__main__":
+    main()

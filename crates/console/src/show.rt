@@ -1,9 +1,15 @@
-// Seeds, elements and rows as text.
+// Seeds, elements, rows and refusals as text.
+ghost use Prim.Native.Nat.{_≤_};
 use expander::Seed;
 use group::Flags;
+use group::Group;
 use group::Pair;
 use group::Word;
+use key::Row;
+use refusal::Refusal;
+use refusal::RefusalDisplay;
 use std::fmt;
+use std::io;
 
 // Bytes in hex.
 #[derive(Clone, Copy)]
@@ -57,4 +63,42 @@ pub impl<G: Element> fmt::Display for Numbers<G> as NumbersDisplay {
 // A bit as 0 or 1.
 pub fn digit(bit: bool) -> u8 {
     if bit { 1 } else { 0 }
+}
+
+pub fn blank<G: Group>() -> Row<G> {
+    Row {
+        word: Seed { bytes: [0; 16] },
+        left: false,
+        right: false,
+        element: G::zero(),
+    }
+}
+
+// As many rows as the width, as far as there are.
+pub fn row_count(width: u8, most: usize) -> usize
+    ensures { λ r. ⌜ r ≤ most ⌝ }
+{
+    (width as usize).min(most)
+}
+
+pub fn print_refusal(rt: &LibcRuntime, refusal: Refusal) -> io::Result<bool> {
+    let number = refusal.number();
+    println!(rt, "refused {number}: {refusal}")?;
+    Ok(false)
+}
+
+pub fn print_rows<G: Group + Element>(rt: &LibcRuntime, rows: &[Row<G>]) -> io::Result<()> {
+    let mut number = 0u64;
+    for row in rows {
+        number = number.saturating_add(1);
+        let word = Hex(row.word);
+        let left = digit(row.left);
+        let right = digit(row.right);
+        let element = Numbers(row.element);
+        println!(
+            rt,
+            "row {number} word {word} left {left} right {right} element {element}"
+        )?;
+    }
+    Ok(())
 }

@@ -16,7 +16,11 @@ impl Interval {
     pub fn new(width: Width, low: u32, high: u32) -> Result<Interval, Refusal>
         ensures { λ r. ⌜ view-answer interval-view r ≡ interval-answer (width .bits) low high ⌝ }
     {
-        if low <= high && width.has(high) { Ok(Interval { width, low, high }) } else { Err(Refusal::PlanFields) }
+        if low <= high && width.has(high) {
+            Ok(Interval { width, low, high })
+        } else {
+            Err(Refusal::PlanFields)
+        }
     }
 
     pub fn width(self) -> Width
@@ -43,7 +47,11 @@ impl Shift {
     pub fn new(width: Width, by: u8) -> Result<Shift, Refusal>
         ensures { λ r. ⌜ view-answer shift-view r ≡ shift-answer (width .bits) by ⌝ }
     {
-        if by >= 1 && by < width.bits() { Ok(Shift { width, by }) } else { Err(Refusal::PlanFields) }
+        if by >= 1 && by < width.bits() {
+            Ok(Shift { width, by })
+        } else {
+            Err(Refusal::PlanFields)
+        }
     }
 
     pub fn width(self) -> Width
@@ -65,5 +73,7 @@ pub fn root_from(first: u64, second: u64) -> Seed
 {
     let [a, b, c, d, e, f, g, h] = first.to_le_bytes();
     let [i, j, k, l, m, n, o, p] = second.to_le_bytes();
-    Seed { bytes: [a, b, c, d, e, f, g, h, i, j, k, l, m, n, o, p] }
+    Seed {
+        bytes: [a, b, c, d, e, f, g, h, i, j, k, l, m, n, o, p],
+    }
 }

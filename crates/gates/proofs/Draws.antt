@@ -6,7 +6,7 @@ use Rattle.expander.specs.declared.Seed.{Seed}
 use Rattle.group.specs.Groups.{OutputGroup}
 use Rattle.key.specs.declared.BoxNumber.{BoxNumber}
 use Rattle.gatekeys.specs.declared.ranges.Interval.{Interval}
-use Rattle.gates.specs.declared.interval.IntervalDraws.{IntervalDraws}
+use Rattle.gates.specs.declared.interval_key.IntervalDraws.{IntervalDraws}
 use Rattle.gates.specs.Interval.{dealt-interval, interval-rows}
 
 module _ {M : Type 0} where

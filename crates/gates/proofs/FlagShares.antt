@@ -21,9 +21,10 @@ use Rattle.shares.specs.Local.{xor-of}
 use Rattle.shares.specs.Flag.{flag-share}
 use Rattle.shares.proofs.Keyed.{flag-is-plain}
 use Rattle.gatekeys.specs.declared.ranges.Interval.{Interval}
-use Rattle.gates.specs.declared.interval.IntervalKey.{IntervalKey}
+use Rattle.gates.specs.declared.interval_key.IntervalKey.{IntervalKey}
 use Rattle.gates.specs.Interval.{interval-key-mean, interval-answer}
-use Rattle.gates.specs.Flag.{flag-mean, flag-draws, dealt-flag-key, flag-rows, flag-held}
+use Rattle.gatemath.specs.Elements.{flag-mean}
+use Rattle.gates.specs.Flag.{flag-draws, dealt-flag-key, flag-rows, flag-held}
 use Rattle.gates.proofs.Meeting.{dealt-keys-join, answer-dealt}
 
 abbrev Bits : Type 0

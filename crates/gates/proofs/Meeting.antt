@@ -19,8 +19,8 @@ use Rattle.masking.specs.Masking.{size}
 use Rattle.interval.specs.Interval.{threshold, answer, KeysJoin}
 use Rattle.shares.specs.Keyed as keyed
 use Rattle.gatekeys.specs.declared.ranges.Interval.{Interval}
-use Rattle.gates.specs.declared.interval.IntervalKey.{IntervalKey}
-use Rattle.gates.specs.declared.interval.IntervalDraws.{IntervalDraws}
+use Rattle.gates.specs.declared.interval_key.IntervalKey.{IntervalKey}
+use Rattle.gates.specs.declared.interval_key.IntervalDraws.{IntervalDraws}
 use Rattle.gates.specs.Interval.{interval-key-mean, key-at, interval-answer, dealt-interval, interval-rows}
 
 -- two boxes' keys for one threshold, dealt by d, answer as the comparison says

@@ -21,9 +21,10 @@ use Rattle.shares.specs.Local.{sum-of}
 use Rattle.shares.specs.Piece.{piece-share-of}
 use Rattle.shares.proofs.Keyed.{piece-is-plain}
 use Rattle.gatekeys.specs.declared.ranges.Interval.{Interval}
-use Rattle.gates.specs.declared.interval.IntervalKey.{IntervalKey}
+use Rattle.gates.specs.declared.interval_key.IntervalKey.{IntervalKey}
 use Rattle.gates.specs.Interval.{interval-key-mean, interval-answer}
-use Rattle.gates.specs.Piece.{quad-mean, payload-of, piece-draws, dealt-piece-key, piece-rows, piece-held}
+use Rattle.gatemath.specs.Elements.{quad-mean}
+use Rattle.gates.specs.Piece.{payload-of, piece-draws, dealt-piece-key, piece-rows, piece-held}
 use Rattle.gates.proofs.Meeting.{dealt-keys-join, answer-dealt}
 
 abbrev FourWords : Type 0

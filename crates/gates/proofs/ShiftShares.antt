@@ -25,7 +25,8 @@ use Rattle.shares.specs.Keyed.{ShiftKeysJoin}
 use Rattle.shares.proofs.Keyed.{shift-is-plain, signed-shift-is-plain}
 use Rattle.gatekeys.specs.declared.ranges.Shift.{Shift}
 use Rattle.gates.specs.declared.shift.ShiftKey.{ShiftKey}
-use Rattle.gates.specs.Shift.{step-of, word-mean, shift-key-mean, low-root0, low-root1, high-root0, high-root1, low-rows-of, high-rows-of, dealt-shift-key}
+use Rattle.gatemath.specs.Elements.{step-of, word-mean}
+use Rattle.gates.specs.Shift.{shift-key-mean, low-root0, low-root1, high-root0, high-root1, low-rows-of, high-rows-of, dealt-shift-key}
 use Rattle.gates.specs.Shift.{low-at, high-at, shift-share-at, signed-share-at, shift-held, signed-shift-held}
 use Rattle.gates.proofs.Meeting.{dealt-keys-join}
 

@@ -4,9 +4,8 @@ use Prim.Native.Nat.{ℕ, _%_, _^_}
 use lib.Bits.{bitXor}
 use lib.ListN.{getD}
 use Rattle.expander.specs.Meaning.{Expansion}
-use Rattle.group.specs.Residues.{Residue, reduce}
+use Rattle.group.specs.Residues.{Residue}
 use Rattle.group.specs.Flags.{flags}
-use Rattle.group.specs.declared.Flags.{Flags}
 use Rattle.key.specs.declared.Row.{Row}
 use Rattle.key.specs.declared.BoxNumber.{BoxNumber}
 use Rattle.key.specs.Rows.{is-one}
@@ -17,13 +16,9 @@ use Rattle.shares.specs.Words.{flag-word}
 use Rattle.shares.specs.Plain.{plain-flag}
 use Rattle.gatekeys.specs.Random.{root-of}
 use Rattle.gatekeys.specs.declared.ranges.Interval.{Interval}
-use Rattle.gates.specs.declared.interval.IntervalKey.{IntervalKey}
-use Rattle.gates.specs.declared.interval.IntervalDraws.{IntervalDraws}
+use Rattle.gates.specs.declared.interval_key.IntervalKey.{IntervalKey}
+use Rattle.gates.specs.declared.interval_key.IntervalDraws.{IntervalDraws}
 use Rattle.gates.specs.Interval.{dealt-interval, interval-rows}
-
--- what flags mean
-abbrev pub flag-mean : Flags → Residue (2 ^ 32)
-flag-mean f = flag-word (f .0)
 
 -- words 1 to 4 are the roots, 5 box 1's part of the payload, 6 its part of E: low halves
 abbrev pub flag-draws : List ℕ → IntervalDraws (Residue (2 ^ 32))

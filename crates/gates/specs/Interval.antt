@@ -14,8 +14,8 @@ use Rattle.masking.specs.Masking.{size}
 use Rattle.interval.specs.Interval.{threshold, extra, answer}
 use Rattle.shares.specs.Splits.{part-of-element}
 use Rattle.gatekeys.specs.declared.ranges.Interval.{Interval}
-use Rattle.gates.specs.declared.interval.IntervalKey.{IntervalKey}
-use Rattle.gates.specs.declared.interval.IntervalDraws.{IntervalDraws}
+use Rattle.gates.specs.declared.interval_key.IntervalKey.{IntervalKey}
+use Rattle.gates.specs.declared.interval_key.IntervalDraws.{IntervalDraws}
 
 -- a key by what its elements mean
 abbrev pub interval-key-mean : {G M : Type 0} → (G → M) → IntervalKey G → IntervalKey M

@@ -4,9 +4,6 @@ use mathlib.Core.Bool.{Bool}
 use Prim.Native.Nat.{ℕ, _+_, _%_}
 use lib.ListN.{getD}
 use Rattle.expander.specs.Meaning.{Expansion}
-use Rattle.group.specs.Residues.{reduce}
-use Rattle.group.specs.declared.Word.{Word}
-use Rattle.group.specs.declared.Pair.{Pair}
 use Rattle.key.specs.declared.Row.{Row}
 use Rattle.key.specs.declared.BoxNumber.{BoxNumber}
 use Rattle.key.specs.Rows.{is-one}
@@ -19,13 +16,9 @@ use Rattle.shares.specs.Plain.{plain-piece}
 use Rattle.gatekeys.specs.Random.{root-of}
 use Rattle.gatekeys.specs.declared.ranges.Interval.{Interval}
 use Rattle.gates.specs.declared.states.Fresh.{Fresh}
-use Rattle.gates.specs.declared.interval.IntervalKey.{IntervalKey}
-use Rattle.gates.specs.declared.interval.IntervalDraws.{IntervalDraws}
+use Rattle.gates.specs.declared.interval_key.IntervalKey.{IntervalKey}
+use Rattle.gates.specs.declared.interval_key.IntervalDraws.{IntervalDraws}
 use Rattle.gates.specs.Interval.{interval-key-mean, dealt-interval, interval-rows}
-
--- what a quad of words means
-abbrev pub quad-mean : Pair (Pair Word Word) (Pair Word Word) → Quad
-quad-mean q = quad (q .left .left .0) (q .left .right .0) (q .right .left .0) (q .right .right .0)
 
 abbrev pub fresh-mean : {G M : Type 0} → (G → M) → Fresh (IntervalKey G) → IntervalKey M
 fresh-mean mean f = interval-key-mean mean (f .key)

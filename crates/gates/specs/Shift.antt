@@ -1,11 +1,10 @@
 -- A shift's key, its answers, and what both boxes come to.
 use mathlib.Core.List.{List}
 use mathlib.Core.Bool.{cond}
-use Prim.Native.Nat.{ℕ, _+_, _%_, _^_}
+use Prim.Native.Nat.{ℕ, _+_, _%_}
 use lib.ListN.{getD}
 use Rattle.expander.specs.Meaning.{Expansion}
 use Rattle.expander.specs.declared.Seed.{Seed}
-use Rattle.group.specs.declared.Word.{Word}
 use Rattle.key.specs.declared.Row.{Row}
 use Rattle.key.specs.declared.BoxNumber.{BoxNumber}
 use Rattle.key.specs.Rows.{is-one}
@@ -17,18 +16,11 @@ use Rattle.shares.specs.Splits.{part-of-number}
 use Rattle.shares.specs.Words as group
 use Rattle.shares.specs.Shifts.{low-threshold, low-payload, high-threshold, high-payload, low-point, shift-rest, shift-share, signed-held, signed-share}
 use Rattle.shares.specs.Plain.{plain-shift, plain-signed-shift}
+use Rattle.gatemath.specs.Elements.{step-of}
 use Rattle.gatekeys.specs.Random.{root-of}
 use Rattle.gatekeys.specs.declared.ranges.Shift.{Shift}
 use Rattle.gates.specs.declared.states.Fresh.{Fresh}
 use Rattle.gates.specs.declared.shift.ShiftKey.{ShiftKey}
-
--- S = 2^s
-abbrev pub step-of : Shift → ℕ
-step-of s = 2 ^ s .by
-
--- what a word means
-abbrev pub word-mean : Word → group.Word
-word-mean w = group.word (w .0)
 
 abbrev pub shift-key-mean : {G M : Type 0} → (G → M) → ShiftKey G → ShiftKey M
 shift-key-mean mean k = record {

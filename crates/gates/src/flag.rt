@@ -11,14 +11,13 @@ ghost use Rattle.shares.specs.Flag.{flag-share};
 ghost use Rattle.gates.specs.Interval.{interval-answer, draws-mean};
 ghost use Rattle.gates.specs.Questions.{row-asks, gate-asks, held-of};
 ghost use Rattle.gates.specs.Piece.{fresh-mean};
-ghost use Rattle.gates.specs.Flag.{flag-mean, flag-draws, dealt-flag-key, flag-rows, flag-held};
-use crate::interval::IntervalDraws;
-use crate::interval::IntervalKey;
-use crate::interval::deal_interval;
+ghost use Rattle.gatemath.specs.Elements.{flag-mean};
+ghost use Rattle.gates.specs.Flag.{flag-draws, dealt-flag-key, flag-rows, flag-held};
+use crate::interval_key::IntervalDraws;
+use crate::interval_key::IntervalKey;
+use crate::interval_key::deal_interval;
 use crate::questions::ask_gate;
 use crate::questions::ask_rows;
-use crate::splits::flags_part;
-use crate::splits::low_half;
 use crate::states::FlagsShared;
 use crate::states::Fresh;
 use crate::states::GateAnswers;
@@ -27,6 +26,9 @@ use crate::states::exchange;
 use expander::Expander;
 use gatekeys::Interval;
 use gatekeys::root_from;
+use gatemath::flag_share;
+use gatemath::flags_part;
+use gatemath::low_half;
 use group::Flags;
 use group::FlagsGroup;
 use group::Group;
@@ -99,13 +101,6 @@ pub fn deal_flag<X: Expander>(
     Ok(flag_key(expander, number, interval, mask, pattern, words, rows))
 }
 
-// An answer XOR the part of the output mask.
-fn share_of(answer: Flags, out: u32) -> u32
-    ensures { λ r. ⌜ r ≡ flag-share (flag-mean answer .0) out ⌝ }
-{
-    answer.0 ^ out
-}
-
 impl Fresh<IntervalKey<Flags>> {
     // A box's share at the held value m. The key is used up.
     pub fn answer_flag<X: Expander>(
@@ -119,7 +114,7 @@ impl Fresh<IntervalKey<Flags>> {
     {
         let width = self.key.interval.width();
         let answer = self.key.answer_at(expander, rows.as_slice(), m.0);
-        let own = Share(share_of(answer, self.key.out));
+        let own = Share(flag_share(answer, self.key.out));
         Half {
             width,
             own,

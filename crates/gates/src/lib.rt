@@ -1,17 +1,16 @@
 // Gates with a key: dealing, answering and joining.
 mod flag;
-mod interval;
+mod interval_key;
 mod piece;
 mod product;
 mod questions;
 mod shift;
-mod splits;
 mod states;
 
 pub use flag::deal_flag;
 pub use flag::flag_gate;
-pub use interval::IntervalDraws;
-pub use interval::IntervalKey;
+pub use interval_key::IntervalDraws;
+pub use interval_key::IntervalKey;
 pub use piece::deal_piece;
 pub use piece::piece_gate;
 pub use product::ProductKey;

@@ -1,23 +1,23 @@
 // The piece gate: a cubic on an interval, zero elsewhere.
 ghost use mathlib.Core.Path.{_≡_};
 ghost use mathlib.Core.List.{map};
-ghost use lib.ListN.{length, getD};
+ghost use lib.ListN.{length};
 ghost use denote.Ref.{name};
 ghost use Rattle.refusal.specs.Questions.{answered};
-ghost use Rattle.key.specs.Rows.{is-one, row-mean};
+ghost use Rattle.key.specs.Rows.{row-mean};
 ghost use Rattle.masking.specs.Masking.{size};
 ghost use Rattle.comparison.specs.Comparison.{answer-mean, RowsAfter};
-ghost use Rattle.shares.specs.Words.{quad, quads};
-ghost use Rattle.shares.specs.Piece.{piece-payload, piece-share-of};
+ghost use Rattle.shares.specs.Words.{quads};
+ghost use Rattle.shares.specs.Piece.{piece-share-of};
 ghost use Rattle.gates.specs.Interval.{interval-answer, draws-mean};
 ghost use Rattle.gates.specs.Questions.{row-asks, gate-asks, held-of};
-ghost use Rattle.gates.specs.Piece.{quad-mean, fresh-mean, piece-draws, dealt-piece-key, piece-rows, piece-held};
-use crate::interval::IntervalDraws;
-use crate::interval::IntervalKey;
-use crate::interval::deal_interval;
+ghost use Rattle.gatemath.specs.Elements.{quad-mean};
+ghost use Rattle.gates.specs.Piece.{fresh-mean, piece-draws, dealt-piece-key, piece-rows, piece-held};
+use crate::interval_key::IntervalDraws;
+use crate::interval_key::IntervalKey;
+use crate::interval_key::deal_interval;
 use crate::questions::ask_gate;
 use crate::questions::ask_rows;
-use crate::splits::number_part;
 use crate::states::Fresh;
 use crate::states::GateAnswers;
 use crate::states::Half;
@@ -26,8 +26,11 @@ use crate::states::exchange;
 use expander::Expander;
 use gatekeys::Interval;
 use gatekeys::root_from;
+use gatemath::number_part;
+use gatemath::payload_for;
+use gatemath::piece_share;
+use gatemath::quad_of;
 use group::Group;
-use group::Pair;
 use group::PairGroup;
 use group::Quad;
 use group::Word;
@@ -36,48 +39,8 @@ use key::BoxNumber;
 use key::Rows;
 use masking::Masked;
 use masking::Share;
-use masking::Width;
 use refusal::Refusal;
 use std::marker::PhantomData;
-
-fn quad_of(a: u64, b: u64, c: u64, d: u64) -> Quad
-    ensures { λ r. ⌜ quad-mean r ≡ quad a b c d ⌝ }
-{
-    Pair {
-        left: Pair {
-            left: Word(a),
-            right: Word(b),
-        },
-        right: Pair {
-            left: Word(c),
-            right: Word(d),
-        },
-    }
-}
-
-// The coefficients of f(m − r), lowest first.
-fn payload_for(mask: u32, coefficients: &[u32; 4]) -> Quad
-    ensures { λ r. ⌜ quad-mean r
-        ≡ piece-payload mask (getD (now (coefficients .entry)) 0 0) (getD (now (coefficients .entry)) 1 0)
-        (getD (now (coefficients .entry)) 2 0) (getD (now (coefficients .entry)) 3 0) ⌝ }
-{
-    let r = mask as u64;
-    let c0 = coefficients[0] as u64;
-    let c1 = coefficients[1] as u64;
-    let c2 = coefficients[2] as u64;
-    let c3 = coefficients[3] as u64;
-    let square = r.wrapping_mul(r);
-    let cube = square.wrapping_mul(r);
-    quad_of(
-        c0.wrapping_sub(c1.wrapping_mul(r))
-            .wrapping_add(c2.wrapping_mul(square))
-            .wrapping_sub(c3.wrapping_mul(cube)),
-        c1.wrapping_sub(c2.wrapping_mul(2).wrapping_mul(r))
-            .wrapping_add(c3.wrapping_mul(3).wrapping_mul(square)),
-        c2.wrapping_sub(c3.wrapping_mul(3).wrapping_mul(r)),
-        c3,
-    )
-}
 
 // What a piece's random words are drawn for: words 1 to 4 the roots, 5 to 8 the payload's part, 9 to 12 that of E.
 fn draws_for(words: &[u64; 14]) -> IntervalDraws<Quad>
@@ -144,25 +107,6 @@ pub fn deal_piece<X: Expander>(
     Ok(piece_key(expander, number, interval, mask, coefficients, words, rows))
 }
 
-// Each word of an answer times its power of m, and the part of the output mask on top.
-fn share_of(width: Width, answer: Quad, m: u32, out: u32) -> u32
-    ensures { λ r. ⌜ r ≡ piece-share-of (size width) m (quad-mean answer) out ⌝ }
-{
-    let x = m as u64;
-    let cubic = answer
-        .right
-        .right
-        .0
-        .wrapping_mul(x)
-        .wrapping_add(answer.right.left.0);
-    let all = cubic
-        .wrapping_mul(x)
-        .wrapping_add(answer.left.right.0)
-        .wrapping_mul(x)
-        .wrapping_add(answer.left.left.0);
-    width.reduce(width.reduce(all) as u64 + out as u64)
-}
-
 impl Fresh<IntervalKey<Quad>> {
     // A box's share at the held value m. The key is used up.
     pub fn answer_piece<X: Expander>(self, expander: &X, rows: &Rows<Quad>, m: Masked) -> Half<Quad>
@@ -172,7 +116,7 @@ impl Fresh<IntervalKey<Quad>> {
     {
         let width = self.key.interval.width();
         let answer = self.key.answer_at(expander, rows.as_slice(), m.0);
-        let own = Share(share_of(width, answer, m.0, self.key.out));
+        let own = Share(piece_share(width, answer, m.0, self.key.out));
         Half {
             width,
             own,

@@ -1,6 +1,5 @@
 // The product gate.
 ghost use mathlib.Core.Path.{_≡_};
-ghost use mathlib.Core.Bool.{cond};
 ghost use Rattle.refusal.specs.Questions.{answered};
 ghost use Rattle.key.specs.Rows.{is-one};
 ghost use Rattle.masking.specs.Masking.{size};
@@ -9,12 +8,13 @@ ghost use Rattle.shares.specs.Product.{product-share};
 ghost use Rattle.gates.specs.Questions.{held-of, product-asks};
 ghost use Rattle.gates.specs.Product.{dealt-product, product-held};
 use crate::questions::ask_product;
-use crate::splits::number_part;
 use crate::states::Fresh;
 use crate::states::GateAnswers;
 use crate::states::Half;
 use crate::states::WordShared;
 use crate::states::exchange;
+use gatemath::number_part;
+use gatemath::product_share;
 use group::Word;
 use key::BoxNumber;
 use masking::Masked;
@@ -55,27 +55,14 @@ pub fn deal_product(
     Fresh { key }
 }
 
-// A number once, or not at all.
-fn once(yes: bool, number: u64) -> u64
-    ensures { λ r. ⌜ r ≡ cond yes number 0 ⌝ }
-{
-    if yes { number } else { 0 }
-}
-
-// C − m × B − k × A, to which box 1 adds m × k.
-fn share_of(key: &ProductKey, m: u32, k: u32) -> u32
-    ensures { λ r. ⌜ r ≡ product-share (is-one (now (key .entry) .number)) (size (now (key .entry) .width)) m k
-        (now (key .entry) .a) (now (key .entry) .b) (now (key .entry) .c) ⌝ }
-{
-    let width = key.width;
-    let size = width.size();
-    let mb = width.reduce(m as u64 * key.b as u64) as u64;
-    let ka = width.reduce(k as u64 * key.a as u64) as u64;
-    let mk = width.reduce(once(key.number.is_one(), m as u64 * k as u64)) as u64;
-    width.reduce(key.c as u64 + mk + (size - mb) + (size - ka))
-}
-
 impl Fresh<ProductKey> {
+    // What a box is given, for a book or a reader: its parts A, B and C.
+    pub fn parts(&self) -> (u32, u32, u32)
+        ensures { λ r. ⌜ r ≡ (now (self .entry) .key .a, now (self .entry) .key .b, now (self .entry) .key .c) ⌝ }
+    {
+        (self.key.a, self.key.b, self.key.c)
+    }
+
     // A box's share at the held values m and k. The key is used up.
     pub fn answer_product(self, m: Masked, k: Masked) -> Half<Word>
         ensures share { λ r. ⌜ r .own .0 ≡ product-share (is-one (self .key .number)) (size (self .key .width)) (m .0) (k .0)
@@ -83,7 +70,8 @@ impl Fresh<ProductKey> {
         ensures width { λ r. ⌜ r .width ≡ self .key .width ⌝ }
     {
         let width = self.key.width;
-        let own = Share(share_of(&self.key, m.0, k.0));
+        let key = &self.key;
+        let own = Share(product_share(key.number, width, m.0, k.0, key.a, key.b, key.c));
         Half {
             width,
             own,

@@ -1,22 +1,18 @@
 // The shifts: two comparison keys in words, a low one on the bits that go and a high one on all.
 ghost use mathlib.Core.Path.{_≡_};
-ghost use mathlib.Core.Bool.{cond};
 ghost use mathlib.Core.List.{map};
-ghost use Prim.Native.Nat.{_+_, _-_, _%_, _/_, _^_, _<_};
 ghost use lib.ListN.{length};
 ghost use denote.Ref.{name};
 ghost use Rattle.refusal.specs.Questions.{answered};
-ghost use Rattle.key.specs.Rows.{row-mean, is-one};
-ghost use Rattle.masking.specs.Masking.{size};
+ghost use Rattle.key.specs.Rows.{row-mean};
 ghost use Rattle.comparison.specs.Comparison.{answer-mean, RowsAfter};
-ghost use Rattle.shares.specs.Shifts.{shift-rest, signed-held};
 ghost use Rattle.gates.specs.Questions.{held-of};
 ghost use Rattle.gates.specs.ShiftQuestions.{shift-row-asks, shift-asks};
-ghost use Rattle.gates.specs.Shift.{step-of, word-mean, fresh-shift-mean, dealt-shift-key, low-rows-of, high-rows-of, low-at, high-at, shift-share-at, signed-share-at, shift-held, signed-shift-held};
-use crate::interval::own_root;
+ghost use Rattle.gatemath.specs.Elements.{word-mean};
+ghost use Rattle.gates.specs.Shift.{fresh-shift-mean, dealt-shift-key, low-rows-of, high-rows-of, low-at, high-at, shift-share-at, signed-share-at, shift-held, signed-shift-held};
+use crate::interval_key::own_root;
 use crate::questions::ask_shift;
 use crate::questions::ask_shift_rows;
-use crate::splits::number_part;
 use crate::states::Fresh;
 use crate::states::GateAnswers;
 use crate::states::Half;
@@ -28,6 +24,14 @@ use expander::Expander;
 use expander::Seed;
 use gatekeys::Shift;
 use gatekeys::root_from;
+use gatemath::low_bits;
+use gatemath::low_key_payload;
+use gatemath::number_part;
+use gatemath::rest_for;
+use gatemath::shift_share;
+use gatemath::signed_point;
+use gatemath::signed_share;
+use gatemath::step_count;
 use group::Group;
 use group::Word;
 use group::WordGroup;
@@ -36,7 +40,6 @@ use key::Row;
 use key::Rows;
 use masking::Masked;
 use masking::Share;
-use masking::Width;
 use refusal::Refusal;
 use std::marker::PhantomData;
 
@@ -50,38 +53,6 @@ pub struct ShiftKey<G> {
     pub(crate) high_root: Seed,
     pub(crate) high_last: G,
     pub(crate) rest: u32,
-}
-
-// S: how many numbers one step of the shift holds.
-fn step_size(shift: Shift) -> u64
-    ensures { λ r. ⌜ r ≡ step-of shift ⌝ }
-{
-    1u64 << shift.by()
-}
-
-// The output mask less floor(r / S).
-fn rest_for(shift: Shift, mask: u32, out: u32) -> u64
-    ensures { λ r. ⌜ r ≡ shift-rest (size (shift .width)) (step-of shift) mask out ⌝ }
-{
-    out as u64
-        + shift
-            .width()
-            .size()
-            .saturating_sub(mask as u64 / step_size(shift))
-}
-
-// The low key's threshold.
-fn low_bits(shift: Shift, number: u32) -> u32
-    ensures { λ r. ⌜ r ≡ number % step-of shift ⌝ }
-{
-    (number as u64 % step_size(shift)) as u32
-}
-
-// The high key's payload: how many steps there are.
-fn step_count(shift: Shift) -> u64
-    ensures { λ r. ⌜ r ≡ size (shift .width) / step-of shift ⌝ }
-{
-    shift.width().size() / step_size(shift)
 }
 
 // One box's key of a shift on a wire with this mask: the rows into the two tables, the rest as the fresh key.
@@ -112,7 +83,7 @@ fn shift_key<X: Expander>(
     let low_last = deal(
         expander,
         low_bits(shift, mask),
-        Word(u64::MAX),
+        low_key_payload(),
         low0,
         low1,
         low,
@@ -164,55 +135,6 @@ pub fn deal_shift<X: Expander>(
     Ok(shift_key(expander, number, shift, mask, words, low, high))
 }
 
-// The quotient by one step.
-fn steps_in(shift: Shift, number: u32) -> u64
-    ensures is { λ r. ⌜ r ≡ number / step-of shift ⌝ }
-    ensures small { λ r. ⌜ r < 2 ^ 32 ⌝ }
-{
-    number as u64 / step_size(shift)
-}
-
-// What box 1 adds to a shift: floor(m / S).
-fn more_for(number: BoxNumber, shift: Shift, m: u32) -> u64
-    ensures is { λ r. ⌜ r ≡ cond (is-one number) (m / step-of shift) 0 ⌝ }
-    ensures small { λ r. ⌜ r < 2 ^ 34 ⌝ }
-{
-    if number.is_one() {
-        steps_in(shift, m)
-    } else {
-        0
-    }
-}
-
-// What box 1 adds to a signed shift: floor(k / S) less the steps of one half.
-fn signed_more_for(number: BoxNumber, shift: Shift, k: u32) -> u64
-    ensures is { λ r. ⌜ r ≡ cond (is-one number) (k / step-of shift + (size (shift .width) - size (shift .width) / 2 / step-of shift)) 0 ⌝ }
-    ensures small { λ r. ⌜ r < 2 ^ 34 ⌝ }
-{
-    let size = shift.width().size();
-    let half = size / 2 / step_size(shift);
-    if number.is_one() {
-        steps_in(shift, k) + size.saturating_sub(half)
-    } else {
-        0
-    }
-}
-
-// Two answers, the rest, and what box 1 adds, modulo N.
-fn share_of(width: Width, low: Word, high: Word, rest: u32, more: u64) -> u32
-    requires { ⌜ more < 2 ^ 34 ⌝ }
-    ensures { λ r. ⌜ r ≡ (word-mean low .0 % size width + word-mean high .0 % size width + rest + more) % size width ⌝ }
-{
-    width.reduce(width.reduce(low.0) as u64 + width.reduce(high.0) as u64 + rest as u64 + more)
-}
-
-// The held value that a signed shift's keys are asked about.
-fn signed_point(width: Width, m: u32) -> u32
-    ensures { λ r. ⌜ r ≡ signed-held (size width) m ⌝ }
-{
-    width.reduce(m as u64 + width.size() / 2)
-}
-
 impl ShiftKey<Word> {
     fn low_answer<X: Expander>(&self, expander: &X, rows: &[Row<Word>], point: u32) -> Word
         ensures { λ r. ⌜ word-mean r ≡ low-at (X·Expander .meaning) word-mean (now (self .entry)) (now (rows .entry)) point ⌝ }
@@ -240,7 +162,7 @@ impl ShiftKey<Word> {
         )
     }
 
-    fn shift_share<X: Expander>(
+    fn share_at<X: Expander>(
         &self,
         expander: &X,
         low: &[Row<Word>],
@@ -251,16 +173,10 @@ impl ShiftKey<Word> {
     {
         let at_low = self.low_answer(expander, low, low_bits(self.shift, m));
         let at_high = self.high_answer(expander, high, m);
-        share_of(
-            self.shift.width(),
-            at_low,
-            at_high,
-            self.rest,
-            more_for(self.number, self.shift, m),
-        )
+        shift_share(self.number, self.shift, m, at_low, at_high, self.rest)
     }
 
-    fn signed_share<X: Expander>(
+    fn signed_share_at<X: Expander>(
         &self,
         expander: &X,
         low: &[Row<Word>],
@@ -272,13 +188,7 @@ impl ShiftKey<Word> {
         let k = signed_point(self.shift.width(), m);
         let at_low = self.low_answer(expander, low, low_bits(self.shift, k));
         let at_high = self.high_answer(expander, high, k);
-        share_of(
-            self.shift.width(),
-            at_low,
-            at_high,
-            self.rest,
-            signed_more_for(self.number, self.shift, k),
-        )
+        signed_share(self.number, self.shift, m, at_low, at_high, self.rest)
     }
 }
 
@@ -298,7 +208,7 @@ impl Fresh<ShiftKey<Word>> {
         let width = self.key.shift.width();
         let own = Share(
             self.key
-                .shift_share(expander, low.as_slice(), high.as_slice(), m.0),
+                .share_at(expander, low.as_slice(), high.as_slice(), m.0),
         );
         Half {
             width,
@@ -322,7 +232,7 @@ impl Fresh<ShiftKey<Word>> {
         let width = self.key.shift.width();
         let own = Share(
             self.key
-                .signed_share(expander, low.as_slice(), high.as_slice(), m.0),
+                .signed_share_at(expander, low.as_slice(), high.as_slice(), m.0),
         );
         Half {
             width,
@@ -403,4 +313,38 @@ pub fn signed_shift_gate<D: Expander, X: Expander, Y: Expander>(
     let half0 = key0.answer_signed_shift(box0, low0, high0, m);
     let half1 = key1.answer_signed_shift(box1, low1, high1, m);
     Ok(exchange(half0, half1))
+}
+
+// What a box is given, for a book or a reader.
+impl<G: Group> Fresh<ShiftKey<G>> {
+    pub fn low_root(&self) -> Seed
+        ensures { λ r. ⌜ r ≡ now (self .entry) .key .«low_root» ⌝ }
+    {
+        self.key.low_root
+    }
+
+    pub fn low_last(&self) -> G
+        ensures { λ r. ⌜ r ≡ now (self .entry) .key .«low_last» ⌝ }
+    {
+        self.key.low_last
+    }
+
+    pub fn high_root(&self) -> Seed
+        ensures { λ r. ⌜ r ≡ now (self .entry) .key .«high_root» ⌝ }
+    {
+        self.key.high_root
+    }
+
+    pub fn high_last(&self) -> G
+        ensures { λ r. ⌜ r ≡ now (self .entry) .key .«high_last» ⌝ }
+    {
+        self.key.high_last
+    }
+
+    // The box's part of the rest.
+    pub fn rest(&self) -> u32
+        ensures { λ r. ⌜ r ≡ now (self .entry) .key .rest ⌝ }
+    {
+        self.key.rest
+    }
 }

@@ -3,7 +3,7 @@ ghost use mathlib.Core.Path.{_≡_};
 ghost use Prim.Native.Nat.{_%_};
 ghost use lib.Dec.{ltb};
 ghost use Rattle.interval.specs.Interval.{masked, plain};
-ghost use Rattle.shares.specs.Local.{sum-of, scale-of, xor-of};
+ghost use Rattle.shares.specs.Local.{sum-of, scale-of, scale-mask, xor-of};
 ghost use Rattle.masking.specs.Masking.{width-answer, allowed, size};
 use refusal::Refusal;
 
@@ -16,7 +16,11 @@ impl Width {
     pub fn new(bits: u8) -> Result<Width, Refusal>
         ensures { λ r. ⌜ width-answer r ≡ allowed bits ⌝ }
     {
-        if bits >= 1 && bits <= 32 { Ok(Width { bits }) } else { Err(Refusal::KeyWidth) }
+        if bits >= 1 && bits <= 32 {
+            Ok(Width { bits })
+        } else {
+            Err(Refusal::KeyWidth)
+        }
     }
 
     pub fn bits(self) -> u8
@@ -89,7 +93,7 @@ pub fn difference(width: Width, a: u32, b: u32) -> u32
     width.reduce(a as u64 + (width.size() - width.reduce(b as u64) as u64))
 }
 
-// c times a number, and d on top: on a held value d is the gate's, on a mask it is 0.
+// c times a held value, and d on top.
 pub fn scale(width: Width, c: u32, d: u32, a: u32) -> u32
     ensures { λ r. ⌜ r ≡ scale-of (size width) c d a ⌝ }
 {
@@ -101,4 +105,11 @@ pub fn xor(a: u32, b: u32) -> u32
     ensures { λ r. ⌜ r ≡ xor-of a b ⌝ }
 {
     a ^ b
+}
+
+// The mask of c times a wire and d on top: d is in the held value only.
+pub fn scale_mask(width: Width, c: u32, mask: u32) -> u32
+    ensures { λ r. ⌜ r ≡ scale-mask (size width) c mask ⌝ }
+{
+    width.reduce(c as u64 * mask as u64)
 }

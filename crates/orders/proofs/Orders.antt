@@ -1,45 +1,34 @@
 -- The line that writes an order is parsed back to that order.
 use mathlib.Core.Path.{_≡_, refl, ap, _∙_}
-use mathlib.Core.Bool.{true, cond, not}
-use mathlib.Core.List.{List, [], _∷_, _++_}
+use mathlib.Core.Bool.{cond}
+use mathlib.Core.List.{List, [], _∷_}
 use Prim.Native.Nat.{ℕ, _^_, _<_}
 use native.Mathlib.Omega.{arith}
 use borrow.Author.Tests.{ne-eqb}
 use lib.Dec.{eqb}
-use lib.ListN.{length, length-append}
-use Rattle.std.proofs.shelf.Tests.{cond-false, and-from, and-parts}
+use lib.ListN.{length}
+use Rattle.std.proofs.shelf.Tests.{cond-false}
 use Rattle.std.specs.Written.{decimal}
 use Rattle.std.specs.shelf.Lists.{All}
+use Rattle.std.specs.declared.option.Option.the-variants.{None, Some}
 use Rattle.std.specs.declared.result.Result.{Result}
 use Rattle.std.specs.declared.result.Result.the-variants.{Ok, Err}
 use Rattle.orders.specs.declared.types.DealOrder.{DealOrder}
+use Rattle.orders.specs.declared.types.Fault.{Fault}
 use Rattle.orders.specs.declared.types.Group.{Group}
 use Rattle.orders.specs.declared.types.Group.the-variants as group
-use Rattle.orders.specs.declared.types.Kind.{Kind}
-use Rattle.orders.specs.declared.types.Kind.the-variants.{Aes, ChaCha, Zero}
 use Rattle.orders.specs.declared.types.Order.{Order}
-use Rattle.orders.specs.declared.types.Order.the-variants.{Nothing, Deal, At}
+use Rattle.orders.specs.declared.types.Order.the-variants.{Nothing, Deal, At, Gate, Hold}
 use Rattle.orders.specs.declared.types.Payload.{Payload}
 use Rattle.orders.specs.declared.types.Payload.the-variants.{Words, Flags, Pair, Quad}
 use Rattle.orders.specs.declared.types.Wrong.{Wrong}
-use Rattle.orders.specs.declared.types.Wrong.the-variants.{MissingWord, PayloadParts}
-use Rattle.orders.specs.Grammar.{and-then, kind-of, group-of, parts, payload-from, payload-of, fault, numbered, placed, deal-of, order-of, parsed}
+use Rattle.orders.specs.declared.types.Wrong.the-variants.{PayloadParts}
+use Rattle.orders.specs.Grammar.{and-then, group-of, parts, payload-from, payload-of, placed, deal-of, order-of, parsed}
 use Rattle.orders.specs.Lines.{joined-by, kind-text, group-text, payload-parts, deal-words, line-words, written, PayloadFits, DealFits, OrderFits}
 use Rattle.orders.specs.Text.{decimal-of}
-use Rattle.orders.proofs.Back.{lacks, lacks-digits, pieces-joined, Word, words-joined, decimal-numeral, decimal-word, decimal-back, seed-word, seed-back}
-
-next : {A B E : Type 0} {r : Result A E} {x : A} (f : A → Result B E) → r ≡ Ok x → and-then r f ≡ f x
-next f e = ap (λ r. and-then r f) e
-
-kind-word : (k : Kind) → Word (kind-text k)
-kind-word Aes = (omega arith, refl)
-kind-word ChaCha = (omega arith, refl)
-kind-word Zero = (omega arith, refl)
-
-kind-back : (k : Kind) → kind-of (kind-text k) ≡ Ok k
-kind-back Aes = refl
-kind-back ChaCha = refl
-kind-back Zero = refl
+use Rattle.orders.proofs.Back.{pieces-joined, Word, words-joined, decimal-word, decimal-back, seed-word, seed-back}
+use Rattle.orders.proofs.WordsBack.{next, kind-word, kind-back, joined-word, plain, word-back, flags-back, placed-ok}
+use Rattle.orders.proofs.GatesBack.{gate-fits, gate-back, short-ok}
 
 group-in : Payload → Group
 group-in (Words a) = group.Words
@@ -60,20 +49,6 @@ group-back (Flags a) = refl
 group-back (Pair a b) = refl
 group-back (Quad a b c d) = refl
 
-lacks-append : (c : ℕ) (xs ys : List ℕ) → lacks c xs ≡ true → lacks c ys ≡ true → lacks c (xs ++ ys) ≡ true
-lacks-append c [] ys h k = k
-lacks-append c (x ∷ xs) ys h k =
-    let p = and-parts (not (eqb x c)) (lacks c xs) h in
-    and-from (not (eqb x c)) (lacks c (xs ++ ys)) (p .0) (lacks-append c xs ys (p .1) k)
-
-joined-word : (v : List ℕ) (vs : List (List ℕ)) → All Word (v ∷ vs) → Word (joined-by 44 (v ∷ vs))
-joined-word v [] h = h .0
-joined-word v (w ∷ vs) h =
-    let rest = joined-by 44 (w ∷ vs) in (
-      omega (arith, length-append v (44 ∷ rest), h .0 .0),
-      lacks-append 32 v (44 ∷ rest) (h .0 .1) (joined-word w vs (h .1) .1),
-    )
-
 payload-word : (p : Payload) → PayloadFits p → Word (joined-by 44 (payload-parts p))
 payload-word (Words a) h = decimal-word a h
 payload-word (Flags a) h = decimal-word a (omega arith)
@@ -82,15 +57,6 @@ payload-word (Pair a b) h =
 payload-word (Quad a b c d) h =
     joined-word (decimal a) (decimal b ∷ decimal c ∷ decimal d ∷ [])
     (decimal-word a (h .0), (decimal-word b (h .1), (decimal-word c (h .2), (decimal-word d (h .3), tt))))
-
-plain : (n : ℕ) → n < 2 ^ 64 → lacks 44 (decimal n) ≡ true
-plain n h = lacks-digits 44 (decimal n) (omega arith) (decimal-numeral n h .all)
-
-word-back : (n : ℕ) → n < 2 ^ 64 → decimal-of 18446744073709551615 (decimal n) ≡ Ok n
-word-back n h = decimal-back 18446744073709551615 n (omega arith) h
-
-flags-back : (n : ℕ) → n < 2 ^ 32 → decimal-of 4294967295 (decimal n) ≡ Ok n
-flags-back n h = decimal-back 4294967295 n (omega arith) (omega arith)
 
 -- a payload's numbers, found again between its commas
 cut : (g : Group) → List (List ℕ) → Result Payload Wrong
@@ -110,12 +76,6 @@ payload-back (Quad a b c d) h =
     (pieces-joined 44 (decimal a) (decimal b ∷ decimal c ∷ decimal d ∷ [])
     (plain a (h .0), (plain b (h .1), (plain c (h .2), (plain d (h .3), tt)))))
     ∙ next _ (word-back a (h .0)) ∙ next _ (word-back b (h .1)) ∙ next _ (word-back c (h .2)) ∙ next _ (word-back d (h .3))
-
--- a word that is there and reads
-placed-ok : {A : Type 0} (w : List ℕ) (n : ℕ) (read : Result A Wrong) (x : A) → 0 < length w → read ≡ Ok x → placed w n read ≡ Ok x
-placed-ok w n read x h e =
-    cond-false (eqb (length w) 0) (Err (fault MissingWord n)) (numbered n read) (ne-eqb (length w) 0 (λ z. omega arith))
-    ∙ ap (numbered n) e
 
 deal-back : (d : DealOrder) → DealFits d → deal-of (deal-words d) ≡ Ok d
 deal-back d h =
@@ -152,6 +112,20 @@ line-fits (Deal d) h = (
   ),
 )
 line-fits (At point) h = ((omega arith, refl), (decimal-word point (omega arith), tt))
+line-fits (Gate g) h = gate-fits g h
+line-fits (Hold m None) h = ((omega arith, refl), (decimal-word m (omega arith), tt))
+line-fits (Hold m (Some k)) h = ((omega arith, refl), (decimal-word m (omega (arith, h .0)), (decimal-word k (omega (arith, h .1)), tt)))
+
+abbrev held : ℕ → ℕ → Result Order Fault
+held m k = Ok (Hold m (Some k))
+
+second : (m k : ℕ) → k < 2 ^ 32
+    → cond (eqb (length (decimal k)) 0) (Ok (Hold m None))
+    (and-then (placed (decimal k) 3 (decimal-of 4294967295 (decimal k))) (λ j. held m j)) ≡ held m k
+second m k h =
+    cond-false (eqb (length (decimal k)) 0) (Ok (Hold m None)) _
+    (ne-eqb (length (decimal k)) 0 (λ z. omega (arith, decimal-word k (omega arith) .0)))
+    ∙ next _ (short-ok k 3 h)
 
 order-back : (o : Order) → OrderFits o → order-of (line-words o) ≡ Ok o
 order-back Nothing h = refl
@@ -159,6 +133,9 @@ order-back (Deal d) h = next (λ order. Ok (Deal order)) (deal-back d h)
 order-back (At point) h =
     next (λ p. Ok (At p))
     (next _ (placed-ok (decimal point) 2 _ point (decimal-word point (omega arith) .0) (flags-back point h)))
+order-back (Gate g) h = next (λ order. Ok (Gate order)) (gate-back g h)
+order-back (Hold m None) h = next _ (short-ok m 2 h)
+order-back (Hold m (Some k)) h = next _ (short-ok m 2 (h .0)) ∙ second m k (h .1)
 
 pub reads-back : (o : Order) → OrderFits o → parsed (written o) ≡ Ok o
 reads-back o h = ap order-of (words-joined (line-words o) (line-fits o h)) ∙ order-back o h

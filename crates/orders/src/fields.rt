@@ -55,7 +55,7 @@ pub fn group_of(word: &[u8]) -> Result<Group, Wrong>
 }
 
 // What was read of word number `n`, with that number where it was wrong.
-fn placed<T: Drop>(word: &[u8], n: usize, read: Result<T, Wrong>) -> Result<T, Fault>
+pub fn placed<T: Drop>(word: &[u8], n: usize, read: Result<T, Wrong>) -> Result<T, Fault>
     ensures { λ r. ⌜ r ≡ placed (now (word .entry)) n read ⌝ }
 {
     if word.len() == 0 {
@@ -82,14 +82,14 @@ fn parts_of(group: Group) -> usize
 }
 
 // Number `k` of a payload, of 64 bits.
-fn word_part(word: &[u8], k: usize) -> Result<u64, Wrong>
+pub fn word_part(word: &[u8], k: usize) -> Result<u64, Wrong>
     ensures { λ r. ⌜ r ≡ word-part (pieces 44 (now (word .entry))) k ⌝ }
 {
     decimal(piece_at(word, b',', k), u64::MAX)
 }
 
 // Number `k` of a payload, of 32 bits.
-fn flags_part(word: &[u8], k: usize) -> Result<u32, Wrong>
+pub fn flags_part(word: &[u8], k: usize) -> Result<u32, Wrong>
     ensures { λ r. ⌜ r ≡ flags-part (pieces 44 (now (word .entry))) k ⌝ }
 {
     let flags = decimal(piece_at(word, b',', k), u32::MAX as u64)?;

@@ -5,6 +5,7 @@ ghost use Rattle.orders.specs.Lines.{ReadsBack};
 ghost use Rattle.orders.specs.Text.{words};
 
 mod fields;
+mod gates;
 mod text;
 mod types;
 
@@ -18,6 +19,11 @@ pub use fields::number_at;
 pub use fields::payload_at;
 pub use fields::payload_of;
 pub use fields::seed_at;
+pub use gates::coefficients_of;
+pub use gates::gate_name_of;
+use gates::gate_order;
+use gates::hold_order;
+pub use gates::random_words_of;
 pub use text::decimal;
 pub use text::hex_digit;
 pub use text::piece_at;
@@ -26,6 +32,9 @@ pub use text::seed_of;
 pub use text::word_at;
 pub use types::DealOrder;
 pub use types::Fault;
+pub use types::GateBody;
+pub use types::GateName;
+pub use types::GateOrder;
 pub use types::Group;
 pub use types::Kind;
 pub use types::Order;
@@ -85,6 +94,11 @@ fn order_of(line: &[u8]) -> Result<Order, Fault>
     } else if is_word(word, b"at") {
         let point = point_order(line)?;
         Ok(Order::At(point))
+    } else if is_word(word, b"gate") {
+        let order = gate_order(line)?;
+        Ok(Order::Gate(order))
+    } else if is_word(word, b"hold") {
+        hold_order(line)
     } else {
         Err(Fault {
             what: Wrong::UnknownOrder,

@@ -7,6 +7,8 @@ pub enum Order {
     Nothing,
     Deal(DealOrder),
     At(u32),
+    Gate(GateOrder),
+    Hold(u32, Option<u32>),
 }
 
 // Deal a key for a threshold, with a payload and two root seeds.
@@ -18,6 +20,73 @@ pub struct DealOrder {
     pub payload: Payload,
     pub root0: Seed,
     pub root1: Seed,
+}
+
+// Deal what a gate takes: the masks of its inputs, its parameters and its random words.
+#[derive(Clone, Copy)]
+pub struct GateOrder {
+    pub kind: Kind,
+    pub width: u8,
+    pub body: GateBody,
+}
+
+#[derive(Clone, Copy)]
+pub enum GateBody {
+    Piece {
+        mask: u32,
+        low: u32,
+        high: u32,
+        coefficients: [u32; 4],
+        words: [u64; 14],
+    },
+    Flag {
+        mask: u32,
+        low: u32,
+        high: u32,
+        pattern: u32,
+        words: [u64; 8],
+    },
+    Shift {
+        mask: u32,
+        by: u8,
+        words: [u64; 10],
+    },
+    Signed {
+        mask: u32,
+        by: u8,
+        words: [u64; 10],
+    },
+    Product {
+        mask: u32,
+        mask2: u32,
+        words: [u64; 4],
+    },
+    Sum {
+        mask: u32,
+        mask2: u32,
+    },
+    Scale {
+        mask: u32,
+        c: u32,
+        d: u32,
+    },
+    Xor {
+        mask: u32,
+        mask2: u32,
+    },
+}
+
+// Which gate.
+#[derive(Clone, Copy)]
+pub enum GateName {
+    Piece,
+    Flag,
+    Shift,
+    Signed,
+    Product,
+    Sum,
+    Scale,
+    Xor,
 }
 
 // Which expander.
@@ -65,6 +134,9 @@ pub enum Wrong {
     PayloadParts,
     SeedLength,
     NotHex,
+    UnknownGate,
+    CoefficientCount,
+    WordCount,
 }
 
 pub impl fmt::Display for Wrong as WrongDisplay {
@@ -80,6 +152,11 @@ pub impl fmt::Display for Wrong as WrongDisplay {
             Wrong::PayloadParts => f.write_str("the payload has not the parts of its group"),
             Wrong::SeedLength => f.write_str("a seed has 32 hex digits"),
             Wrong::NotHex => f.write_str("not a hex digit"),
+            Wrong::UnknownGate => f.write_str(
+                "not a gate: piece, flag, shift, signed, product, sum, scale or xor",
+            ),
+            Wrong::CoefficientCount => f.write_str("a piece has four coefficients"),
+            Wrong::WordCount => f.write_str("not as many random words as the gate takes"),
         }
     }
 }

@@ -18,7 +18,10 @@ fn key(rt: &LibcRuntime, session: &mut Session, start: &str) -> Result<(), AnyEr
 }
 
 fn points(rt: &LibcRuntime, session: &mut Session) -> Result<(), AnyError> {
-    println!(rt, "Both boxes answer below, at and above the threshold, and the answers are joined:")?;
+    println!(
+        rt,
+        "Both boxes answer below, at and above the threshold, and the answers are joined:"
+    )?;
     order(rt, session, "at 4")?;
     order(rt, session, "at 5")?;
     order(rt, session, "at 6")
@@ -26,14 +29,23 @@ fn points(rt: &LibcRuntime, session: &mut Session) -> Result<(), AnyError> {
 
 fn example(rt: &LibcRuntime) -> Result<(), AnyError> {
     let mut session = Session::new();
-    println!(rt, "A comparison, split into two keys: payload 1 below threshold 5, at width 3.")?;
-    println!(rt, "Kind 1, AES-128. Each box gets its root; rows and final element are common:")?;
+    println!(
+        rt,
+        "A comparison, split into two keys: payload 1 below threshold 5, at width 3."
+    )?;
+    println!(
+        rt,
+        "Kind 1, AES-128. Each box gets its root; rows and final element are common:"
+    )?;
     key(rt, &mut session, "deal 1 words 3 5 1")?;
     points(rt, &mut session)?;
     println!(rt, "The same with kind 2, ChaCha20:")?;
     key(rt, &mut session, "deal 2 words 3 5 1")?;
     points(rt, &mut session)?;
-    println!(rt, "A threshold out of range is refused, and the last key stays:")?;
+    println!(
+        rt,
+        "A threshold out of range is refused, and the last key stays:"
+    )?;
     key(rt, &mut session, "deal 2 words 3 8 1")?;
     order(rt, &mut session, "at 4")
 }

@@ -16,5 +16,5 @@ pub returns : need.returns
 returns g c =
     let m = g .G·Group in
     let read = ap (λ rs. evaluated (g .X·Expander .meaning) (m .group) (m .mean) (is-one (c .args .number)) (c .args .root) rs (c .args .last) (c .args .point))
-        (c .as-slice .ensures) in
+    (c .as-slice .ensures) in
     ap Ok (c .answer .ensures ∙ read) ∙ sym (accepted (c .args .width) (c .in-range .ensures) (c .count .ensures) (c .words .ensures .count) (c .in-Continue-ask-key .field-0) _ (c .in-Continue-ask-key .ensures tt))

@@ -6,7 +6,8 @@ use Rattle.std.specs.declared.result.Result.the-variants.{Ok, Err}
 use Rattle.std.proofs.shelf.Results.{err-from-errBy}
 use Rattle.comparison.specs.Comparison.{answer-mean}
 use Rattle.gates.specs.Piece.{fresh-mean}
-use Rattle.gates.specs.Flag.{flag-mean, dealt-flag-key, flag-rows}
+use Rattle.gatemath.specs.Elements.{flag-mean}
+use Rattle.gates.specs.Flag.{dealt-flag-key, flag-rows}
 use Rattle.gates.proofs.Asked.{rows-refused, rows-asked, rows-accepted}
 use Rattle.gates.proofs.flag.deal_flag.Needs as need
 

@@ -5,7 +5,8 @@ use lib.ListN.{length}
 use Rattle.std.specs.declared.result.Result.the-variants.{Ok, Err}
 use Rattle.std.proofs.shelf.Results.{err-from-errBy}
 use Rattle.comparison.specs.Comparison.{answer-mean}
-use Rattle.gates.specs.Piece.{quad-mean, fresh-mean, dealt-piece-key, piece-rows}
+use Rattle.gatemath.specs.Elements.{quad-mean}
+use Rattle.gates.specs.Piece.{fresh-mean, dealt-piece-key, piece-rows}
 use Rattle.gates.proofs.Asked.{rows-refused, rows-asked, rows-accepted}
 use Rattle.gates.proofs.piece.deal_piece.Needs as need
 

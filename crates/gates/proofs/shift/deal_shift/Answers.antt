@@ -5,7 +5,8 @@ use lib.ListN.{length}
 use Rattle.std.specs.declared.result.Result.the-variants.{Ok, Err}
 use Rattle.std.proofs.shelf.Results.{err-from-errBy}
 use Rattle.comparison.specs.Comparison.{answer-mean}
-use Rattle.gates.specs.Shift.{word-mean, fresh-shift-mean, dealt-shift-key, low-rows-of, high-rows-of}
+use Rattle.gatemath.specs.Elements.{word-mean}
+use Rattle.gates.specs.Shift.{fresh-shift-mean, dealt-shift-key, low-rows-of, high-rows-of}
 use Rattle.gates.proofs.ShiftAsked.{tables-refused, tables-accepted, tables-low, tables-high}
 use Rattle.gates.proofs.shift.deal_shift.Needs as need
 

@@ -7,8 +7,9 @@ use Rattle.key.specs.Rows.{is-one}
 use Rattle.masking.specs.Masking.{size}
 use Rattle.shares.specs.Splits.{part-of-number}
 use Rattle.shares.specs.Words as group
-use Rattle.shares.specs.Shifts.{low-payload, shift-rest}
-use Rattle.gates.specs.Shift.{step-of, low-root0, low-root1, high-root0, high-root1}
+use Rattle.shares.specs.Shifts.{shift-rest}
+use Rattle.gatemath.specs.Elements.{step-of}
+use Rattle.gates.specs.Shift.{low-root0, low-root1, high-root0, high-root1}
 use Rattle.gates.proofs.ShiftKeys.{same-rows, same-last, same-key}
 use Rattle.gates.proofs.shift.shift_key.Needs as need
 
@@ -42,10 +43,10 @@ returns g c =
     let high-root = c .own-root-high-root .ensures ∙ ap (λ t. cond one (c .root-from-high1 .result) t) high0 ∙ ap (λ t. cond one t (high-root0 ws)) high1 in
     record {
       key = same-key b s
-          low-root (low .last ∙ same-last x group.words l {β = group.word low-payload} refl below low0 low1)
+          low-root (low .last ∙ same-last x group.words l (c .low-key-payload .ensures) below low0 low1)
           high-root (high .last ∙ same-last x group.words h count same-mask high0 high1)
           rest;
-      low = low .rows ∙ same-rows x group.words l {β = group.word low-payload} refl below low0 low1;
+      low = low .rows ∙ same-rows x group.words l (c .low-key-payload .ensures) below low0 low1;
       high = high .rows ∙ same-rows x group.words h count same-mask high0 high1;
       same-low = low .same;
       same-high = high .same;

@@ -4,7 +4,7 @@ use Rattle.masking.specs.Masking.{size}
 use Rattle.shares.specs.Words.{quads}
 use Rattle.shares.specs.Piece.{piece-share-of}
 use Rattle.gates.specs.Interval.{interval-answer}
-use Rattle.gates.specs.Piece.{quad-mean}
+use Rattle.gatemath.specs.Elements.{quad-mean}
 use Rattle.gates.proofs.piece.Fresh+IntervalKey+Quad.answer_piece.Needs as need
 
 pub returns : need.returns
@@ -14,7 +14,7 @@ returns g c =
     let m = c .args .m .0 in
     let share = piece-share-of (size (k .interval .width)) m in
     record {
-      share = c .share-of .ensures
+      share = c .piece-share .ensures
           ∙ ap (λ w. piece-share-of (size w) m (quad-mean (c .answer-at-answer .result)) (k .out)) (c .width-width .ensures)
           ∙ ap (λ q. share q (k .out)) (c .answer-at-answer .ensures)
           ∙ ap (λ rs. share (interval-answer x quads quad-mean k rs m) (k .out)) (c .as-slice .ensures);

@@ -2,14 +2,10 @@
 ghost use mathlib.Core.Path.{_≡_};
 ghost use mathlib.Core.Bool.{cond};
 ghost use mathlib.Core.List.{map};
-ghost use Prim.Native.Nat.{_<_};
 ghost use lib.ListN.{length};
 ghost use denote.Ref.{name};
-ghost use Rattle.masking.specs.Masking.{size};
 ghost use Rattle.key.specs.Rows.{row-mean, is-one};
 ghost use Rattle.evaluation.specs.Evaluation.{evaluated};
-ghost use Rattle.interval.specs.Interval.{threshold, point, after, masked, taken, net, extra};
-ghost use Rattle.shares.specs.Splits.{part-of-element};
 ghost use Rattle.gates.specs.Interval.{interval-key-mean, draws-mean, key-at, interval-answer, dealt-interval, interval-rows};
 use crate::states::Fresh;
 use dealing::deal;
@@ -17,12 +13,17 @@ use evaluation::answer;
 use expander::Expander;
 use expander::Seed;
 use gatekeys::Interval;
+use gatemath::after_end;
+use gatemath::extra_for;
+use gatemath::once_less;
+use gatemath::part_of;
+use gatemath::point_for;
+use gatemath::threshold_for;
 use group::Group;
 use group::difference;
 use key::BoxNumber;
 use key::Row;
 use key::Rows;
-use masking::Width;
 
 // One box's key for an interval, but for the rows, which stand in the caller's table.
 #[derive(Drop)]
@@ -34,77 +35,6 @@ pub struct IntervalKey<G> {
     pub(crate) payload: G,
     pub(crate) extra: G,
     pub(crate) out: u32,
-}
-
-// The comparison key's threshold for a mask.
-fn threshold_for(width: Width, mask: u32) -> u32
-    ensures { λ r. ⌜ r ≡ threshold (size width) mask ⌝ }
-{
-    width.reduce(mask as u64 + (width.size() - 1))
-}
-
-// Where the key is asked about an end.
-fn point_for(width: Width, m: u32, end: u32) -> u32
-    requires { ⌜ end < size width ⌝ }
-    ensures { λ r. ⌜ r ≡ point (size width) m end ⌝ }
-{
-    width.reduce(m as u64 + (width.size() - 1 - end as u64))
-}
-
-// The number after an end; after the last one it is 0.
-fn after_end(width: Width, end: u32) -> u32
-    ensures { λ r. ⌜ r ≡ after (size width) end ⌝ }
-{
-    width.reduce(end as u64 + 1)
-}
-
-fn with_mask(width: Width, mask: u32, end: u32) -> u32
-    ensures { λ r. ⌜ r ≡ masked (size width) mask end ⌝ }
-{
-    width.reduce(end as u64 + mask as u64)
-}
-
-// An element once, or not at all.
-fn once<G: Group>(yes: bool, element: G) -> G
-    ensures { λ r. ⌜ G·Group .mean r ≡ taken (G·Group .group) yes (G·Group .mean element) ⌝ }
-{
-    if yes { element } else { G::zero() }
-}
-
-// An element once, less once.
-fn once_less<G: Group>(yes: bool, less: bool, element: G) -> G
-    ensures { λ r. ⌜ G·Group .mean r ≡ net (G·Group .group) yes less (G·Group .mean element) ⌝ }
-{
-    difference(once(yes, element), once(less, element))
-}
-
-// E: how often the payload is added for numbers that wrap.
-fn extra_for<G: Group>(interval: Interval, mask: u32, payload: G) -> G
-    ensures { λ r. ⌜ G·Group .mean r
-        ≡ extra (G·Group .group) (size (interval .width)) mask (interval .low) (interval .high) (G·Group .mean payload) ⌝ }
-{
-    let width = interval.width();
-    let low = interval.low();
-    let from = with_mask(width, mask, low);
-    let to = with_mask(width, mask, interval.high());
-    let next = after_end(width, interval.high());
-    let past = with_mask(width, mask, next);
-    let wraps = once_less(to < from, low < from, payload);
-    let ends = to as u64 == width.size() - 1;
-    wraps
-        .add(once(next < past, payload))
-        .add(once(ends, payload))
-}
-
-// A box's part of an element: box 1 has what is random, box 0 the difference.
-fn part_of<G: Group>(number: BoxNumber, all: G, random: G) -> G
-    ensures { λ r. ⌜ G·Group .mean r ≡ part-of-element (G·Group .group) (is-one number) (G·Group .mean all) (G·Group .mean random) ⌝ }
-{
-    if number.is_one() {
-        random
-    } else {
-        difference(all, random)
-    }
 }
 
 impl<G: Group> IntervalKey<G> {
@@ -180,4 +110,38 @@ pub(crate) fn own_root(number: BoxNumber, root0: Seed, root1: Seed) -> Seed
     ensures { λ r. ⌜ r ≡ cond (is-one number) root1 root0 ⌝ }
 {
     if number.is_one() { root1 } else { root0 }
+}
+
+// What a box is given, for a book or a reader.
+impl<G: Group> Fresh<IntervalKey<G>> {
+    pub fn root(&self) -> Seed
+        ensures { λ r. ⌜ r ≡ now (self .entry) .key .root ⌝ }
+    {
+        self.key.root
+    }
+
+    pub fn last(&self) -> G
+        ensures { λ r. ⌜ r ≡ now (self .entry) .key .last ⌝ }
+    {
+        self.key.last
+    }
+
+    pub fn payload(&self) -> G
+        ensures { λ r. ⌜ r ≡ now (self .entry) .key .payload ⌝ }
+    {
+        self.key.payload
+    }
+
+    pub fn extra(&self) -> G
+        ensures { λ r. ⌜ r ≡ now (self .entry) .key .extra ⌝ }
+    {
+        self.key.extra
+    }
+
+    // The box's part of the output mask.
+    pub fn out(&self) -> u32
+        ensures { λ r. ⌜ r ≡ now (self .entry) .key .out ⌝ }
+    {
+        self.key.out
+    }
 }

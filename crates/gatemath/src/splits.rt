@@ -8,7 +8,7 @@ use key::BoxNumber;
 use masking::Width;
 
 // A box's part of a number: box 1 has the random word modulo N, box 0 the difference.
-pub(crate) fn number_part(width: Width, number: BoxNumber, all: u64, random: u64) -> u32
+pub fn number_part(width: Width, number: BoxNumber, all: u64, random: u64) -> u32
     ensures { λ r. ⌜ r ≡ part-of-number (is-one number) (size width) all random ⌝ }
 {
     let drawn = width.reduce(random);
@@ -20,14 +20,14 @@ pub(crate) fn number_part(width: Width, number: BoxNumber, all: u64, random: u64
 }
 
 // A random word as flags: its low half.
-pub(crate) fn low_half(word: u64) -> u32
+pub fn low_half(word: u64) -> u32
     ensures { λ r. ⌜ r ≡ word % 2 ^ 32 ⌝ }
 {
     (word % 0x1_0000_0000) as u32
 }
 
 // A box's part of flags: box 1 has the random word's low half, box 0 the XOR.
-pub(crate) fn flags_part(number: BoxNumber, all: u32, random: u64) -> u32
+pub fn flags_part(number: BoxNumber, all: u32, random: u64) -> u32
     ensures { λ r. ⌜ r ≡ part-of-flags (is-one number) all random ⌝ }
 {
     let drawn = low_half(random);

@@ -1,0 +1,30 @@
+// The arithmetic of the gates, without keys: each function is one definition of the rules.
+mod flag;
+mod counts;
+mod piece;
+mod product;
+mod shift;
+mod splits;
+
+pub use flag::flag_share;
+pub use counts::after_end;
+pub use counts::extra_for;
+pub use counts::once;
+pub use counts::once_less;
+pub use counts::part_of;
+pub use counts::point_for;
+pub use counts::threshold_for;
+pub use piece::payload_for;
+pub use piece::piece_share;
+pub use piece::quad_of;
+pub use product::product_share;
+pub use shift::low_bits;
+pub use shift::low_key_payload;
+pub use shift::rest_for;
+pub use shift::shift_share;
+pub use shift::signed_point;
+pub use shift::signed_share;
+pub use shift::step_count;
+pub use splits::flags_part;
+pub use splits::low_half;
+pub use splits::number_part;
