@@ -1,5 +1,5 @@
-"""Writes crates/vectors/stdin and stdout, and crates/wukraslo/stdout: orders for the console and their answers, by the
-independent calculation of reference.py. Run it from anywhere: python3 tests/keys.py"""
+"""Writes crates/vectors/stdin and stdout: orders for keys and their answers, by the independent calculation of
+reference.py. Run it from anywhere: python3 tests/keys.py"""
 import hashlib
 import os
 from reference import EXPANDERS, GROUPS, deal, evaluate
@@ -125,36 +125,6 @@ def vectors():
     return orders, answers
 
 
-def example():
-    console, out = Console(), []
-    roots = (bytes(range(16)), bytes(range(16, 32)))
-
-    def key(kind, alpha):
-        out.append("> " + deal_line(kind, "words", 3, alpha, [1], *roots))
-        out.extend(console.deal(kind, "words", 3, alpha, [1], *roots))
-
-    def at(m):
-        out.append(f"> at {m}")
-        out.extend(console.at(m))
-
-    def points():
-        out.append("Both boxes answer below, at and above the threshold, and the answers are joined:")
-        for m in (4, 5, 6):
-            at(m)
-
-    out.append("A comparison, split into two keys: payload 1 below threshold 5, at width 3.")
-    out.append("Kind 1, AES-128. Each box gets its root; rows and final element are common:")
-    key(1, 5)
-    points()
-    out.append("The same with kind 2, ChaCha20:")
-    key(2, 5)
-    points()
-    out.append("A threshold out of range is refused, and the last key stays:")
-    key(2, 8)
-    at(4)
-    return out
-
-
 def write(path, lines):
     with open(path, "w") as f:
         f.write("".join(line + "\n" for line in lines))
@@ -164,7 +134,6 @@ def main():
     orders, answers = vectors()
     write(crate("vectors", "stdin"), orders)
     write(crate("vectors", "stdout"), answers)
-    write(crate("wukraslo", "stdout"), example())
 
 
 if __name__ == "__main__":

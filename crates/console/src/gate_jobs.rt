@@ -72,12 +72,19 @@ fn print_mask(rt: &LibcRuntime, mask: u32) -> io::Result<()> {
 }
 
 // One box's part of an interval gate's key.
-fn print_interval_key<G: Group + Element>(rt: &LibcRuntime, number: u8, key: &Fresh<IntervalKey<G>>) -> io::Result<()> {
+fn print_interval_key<G: Group + Element>(
+    rt: &LibcRuntime,
+    number: u8,
+    key: &Fresh<IntervalKey<G>>,
+) -> io::Result<()> {
     let root = Hex(key.root());
     let payload = Numbers(key.payload());
     let extra = Numbers(key.extra());
     let out = key.out();
-    println!(rt, "box {number} root {root} payload {payload} extra {extra} mask {out}")
+    println!(
+        rt,
+        "box {number} root {root} payload {payload} extra {extra} mask {out}"
+    )
 }
 
 fn print_shift_key(rt: &LibcRuntime, number: u8, key: &Fresh<ShiftKey<Word>>) -> io::Result<()> {
@@ -122,7 +129,12 @@ fn print_interval_keys<G: Group + Element>(
     }
 }
 
-fn print_answers(rt: &LibcRuntime, held: Held, answers: Result<GateAnswers, Refusal>, plain: Reading) -> io::Result<bool> {
+fn print_answers(
+    rt: &LibcRuntime,
+    held: Held,
+    answers: Result<GateAnswers, Refusal>,
+    plain: Reading,
+) -> io::Result<bool> {
     match answers {
         Err(refusal) => print_refusal(rt, refusal),
         Ok(answers) => {
@@ -130,7 +142,10 @@ fn print_answers(rt: &LibcRuntime, held: Held, answers: Result<GateAnswers, Refu
             let one = answers.share1.0;
             let joined = answers.held.0;
             let value = plain.0;
-            println!(rt, "held {held} box0 {zero} box1 {one} join {joined} plain {value}")?;
+            println!(
+                rt,
+                "held {held} box0 {zero} box1 {one} join {joined} plain {value}"
+            )?;
             Ok(true)
         }
     }
@@ -185,9 +200,21 @@ struct ProductJob {
 // A gate that a box works out alone.
 #[derive(Clone, Copy)]
 enum LocalJob {
-    Sum { width: Width, mask: u32, mask2: u32 },
-    Scale { width: Width, mask: u32, c: u32, d: u32 },
-    Xor { mask: u32, mask2: u32 },
+    Sum {
+        width: Width,
+        mask: u32,
+        mask2: u32,
+    },
+    Scale {
+        width: Width,
+        mask: u32,
+        c: u32,
+        d: u32,
+    },
+    Xor {
+        mask: u32,
+        mask2: u32,
+    },
 }
 
 #[derive(Clone, Copy)]
@@ -204,52 +231,138 @@ enum Job {
 fn job_of(order: &GateOrder) -> Result<Job, Refusal> {
     let width = Width::new(order.width)?;
     match order.body {
-        GateBody::Piece { mask, low, high, coefficients, words } => {
+        GateBody::Piece {
+            mask,
+            low,
+            high,
+            coefficients,
+            words,
+        } => {
             let interval = Interval::new(width, low, high)?;
-            Ok(Job::Piece(PieceJob { interval, mask: width.reduce(mask as u64), coefficients, words }))
+            Ok(Job::Piece(PieceJob {
+                interval,
+                mask: width.reduce(mask as u64),
+                coefficients,
+                words,
+            }))
         }
-        GateBody::Flag { mask, low, high, pattern, words } => {
+        GateBody::Flag {
+            mask,
+            low,
+            high,
+            pattern,
+            words,
+        } => {
             let interval = Interval::new(width, low, high)?;
-            Ok(Job::Flag(FlagJob { interval, mask: width.reduce(mask as u64), pattern, words }))
+            Ok(Job::Flag(FlagJob {
+                interval,
+                mask: width.reduce(mask as u64),
+                pattern,
+                words,
+            }))
         }
         GateBody::Shift { mask, by, words } => {
             let shift = Shift::new(width, by)?;
-            Ok(Job::Shift(ShiftJob { shift, mask: width.reduce(mask as u64), words }))
+            Ok(Job::Shift(ShiftJob {
+                shift,
+                mask: width.reduce(mask as u64),
+                words,
+            }))
         }
         GateBody::Signed { mask, by, words } => {
             let shift = Shift::new(width, by)?;
-            Ok(Job::Signed(ShiftJob { shift, mask: width.reduce(mask as u64), words }))
+            Ok(Job::Signed(ShiftJob {
+                shift,
+                mask: width.reduce(mask as u64),
+                words,
+            }))
         }
         GateBody::Product { mask, mask2, words } => {
             let mask = width.reduce(mask as u64);
-            Ok(Job::Product(ProductJob { width, mask, mask2: width.reduce(mask2 as u64), words }))
+            Ok(Job::Product(ProductJob {
+                width,
+                mask,
+                mask2: width.reduce(mask2 as u64),
+                words,
+            }))
         }
         GateBody::Sum { mask, mask2 } => {
             let mask = width.reduce(mask as u64);
-            Ok(Job::Local(LocalJob::Sum { width, mask, mask2: width.reduce(mask2 as u64) }))
+            Ok(Job::Local(LocalJob::Sum {
+                width,
+                mask,
+                mask2: width.reduce(mask2 as u64),
+            }))
         }
-        GateBody::Scale { mask, c, d } => Ok(Job::Local(LocalJob::Scale { width, mask: width.reduce(mask as u64), c, d })),
+        GateBody::Scale { mask, c, d } => Ok(Job::Local(LocalJob::Scale {
+            width,
+            mask: width.reduce(mask as u64),
+            c,
+            d,
+        })),
         GateBody::Xor { mask, mask2 } => Ok(Job::Local(LocalJob::Xor { mask, mask2 })),
     }
 }
 
-fn deal_piece_over<X: Expander>(rt: &LibcRuntime, expander: &X, job: &PieceJob, memory: &mut [Row<Quad>]) -> io::Result<bool> {
+fn deal_piece_over<X: Expander>(
+    rt: &LibcRuntime,
+    expander: &X,
+    job: &PieceJob,
+    memory: &mut [Row<Quad>],
+) -> io::Result<bool> {
     let width = job.interval.width();
     let count = row_count(width.bits(), memory.len());
     let mut rows = Rows::over(&mut memory[0..count]);
     print_mask(rt, width.reduce(job.words[0]))?;
-    let key0 = deal_piece(expander, BoxNumber::Zero, job.interval, job.mask, &job.coefficients, &job.words, &mut rows);
-    let key1 = deal_piece(expander, BoxNumber::One, job.interval, job.mask, &job.coefficients, &job.words, &mut rows);
+    let key0 = deal_piece(
+        expander,
+        BoxNumber::Zero,
+        job.interval,
+        job.mask,
+        &job.coefficients,
+        &job.words,
+        &mut rows,
+    );
+    let key1 = deal_piece(
+        expander,
+        BoxNumber::One,
+        job.interval,
+        job.mask,
+        &job.coefficients,
+        &job.words,
+        &mut rows,
+    );
     print_interval_keys(rt, rows.as_slice(), key0, key1)
 }
 
-fn deal_flag_over<X: Expander>(rt: &LibcRuntime, expander: &X, job: &FlagJob, memory: &mut [Row<Flags>]) -> io::Result<bool> {
+fn deal_flag_over<X: Expander>(
+    rt: &LibcRuntime,
+    expander: &X,
+    job: &FlagJob,
+    memory: &mut [Row<Flags>],
+) -> io::Result<bool> {
     let width = job.interval.width();
     let count = row_count(width.bits(), memory.len());
     let mut rows = Rows::over(&mut memory[0..count]);
     print_mask(rt, (job.words[0] % 0x1_0000_0000) as u32)?;
-    let key0 = deal_flag(expander, BoxNumber::Zero, job.interval, job.mask, job.pattern, &job.words, &mut rows);
-    let key1 = deal_flag(expander, BoxNumber::One, job.interval, job.mask, job.pattern, &job.words, &mut rows);
+    let key0 = deal_flag(
+        expander,
+        BoxNumber::Zero,
+        job.interval,
+        job.mask,
+        job.pattern,
+        &job.words,
+        &mut rows,
+    );
+    let key1 = deal_flag(
+        expander,
+        BoxNumber::One,
+        job.interval,
+        job.mask,
+        job.pattern,
+        &job.words,
+        &mut rows,
+    );
     print_interval_keys(rt, rows.as_slice(), key0, key1)
 }
 
@@ -290,8 +403,24 @@ fn deal_shift_over<X: Expander>(
     let mut low = Rows::over(&mut low_memory[0..low_count]);
     let mut high = Rows::over(&mut high_memory[0..high_count]);
     print_mask(rt, width.reduce(job.words[0]))?;
-    let key0 = deal_shift(expander, BoxNumber::Zero, job.shift, job.mask, &job.words, &mut low, &mut high);
-    let key1 = deal_shift(expander, BoxNumber::One, job.shift, job.mask, &job.words, &mut low, &mut high);
+    let key0 = deal_shift(
+        expander,
+        BoxNumber::Zero,
+        job.shift,
+        job.mask,
+        &job.words,
+        &mut low,
+        &mut high,
+    );
+    let key1 = deal_shift(
+        expander,
+        BoxNumber::One,
+        job.shift,
+        job.mask,
+        &job.words,
+        &mut low,
+        &mut high,
+    );
     print_shift_keys(rt, low.as_slice(), high.as_slice(), key0, key1)
 }
 
@@ -318,8 +447,20 @@ fn deal_with<X: Expander>(rt: &LibcRuntime, expander: &X, job: &Job) -> io::Resu
     match job {
         Job::Piece(job) => deal_piece_over(rt, expander, job, &mut [blank(); 32]),
         Job::Flag(job) => deal_flag_over(rt, expander, job, &mut [blank(); 32]),
-        Job::Shift(job) => deal_shift_over(rt, expander, job, &mut [blank(); 32], &mut [blank(); 32]),
-        Job::Signed(job) => deal_shift_over(rt, expander, job, &mut [blank(); 32], &mut [blank(); 32]),
+        Job::Shift(job) => deal_shift_over(
+            rt,
+            expander,
+            job,
+            &mut [blank(); 32],
+            &mut [blank(); 32],
+        ),
+        Job::Signed(job) => deal_shift_over(
+            rt,
+            expander,
+            job,
+            &mut [blank(); 32],
+            &mut [blank(); 32],
+        ),
         Job::Product(job) => deal_product_job(rt, job),
         Job::Local(job) => deal_local(rt, job),
     }
@@ -351,8 +492,18 @@ fn hold_piece_over<X: Expander>(
     let mut rows0 = Rows::over(&mut memory0[0..count0]);
     let mut rows1 = Rows::over(&mut memory1[0..count1]);
     let held = Masked(m);
-    let answers =
-        piece_gate(expander, expander, expander, job.interval, job.mask, &job.coefficients, &job.words, &mut rows0, &mut rows1, held);
+    let answers = piece_gate(
+        expander,
+        expander,
+        expander,
+        job.interval,
+        job.mask,
+        &job.coefficients,
+        &job.words,
+        &mut rows0,
+        &mut rows1,
+        held,
+    );
     let plain = plain_piece(job.interval, job.coefficients, held.unmask(width, job.mask));
     print_answers(rt, Held(m, None), answers, plain)
 }
@@ -371,7 +522,18 @@ fn hold_flag_over<X: Expander>(
     let mut rows0 = Rows::over(&mut memory0[0..count0]);
     let mut rows1 = Rows::over(&mut memory1[0..count1]);
     let held = Masked(m);
-    let answers = flag_gate(expander, expander, expander, job.interval, job.mask, job.pattern, &job.words, &mut rows0, &mut rows1, held);
+    let answers = flag_gate(
+        expander,
+        expander,
+        expander,
+        job.interval,
+        job.mask,
+        job.pattern,
+        &job.words,
+        &mut rows0,
+        &mut rows1,
+        held,
+    );
     let plain = plain_flag(job.interval, job.pattern, held.unmask(width, job.mask));
     print_answers(rt, Held(m, None), answers, plain)
 }
@@ -398,12 +560,41 @@ fn hold_shift_over<X: Expander>(
     let value = held.unmask(job.shift.width(), job.mask);
     match sign {
         Sign::Unsigned => {
-            let answers = shift_gate(expander, expander, expander, job.shift, job.mask, &job.words, low0, high0, low1, high1, held);
+            let answers = shift_gate(
+                expander,
+                expander,
+                expander,
+                job.shift,
+                job.mask,
+                &job.words,
+                low0,
+                high0,
+                low1,
+                high1,
+                held,
+            );
             print_answers(rt, Held(m, None), answers, plain_shift(job.shift, value))
         }
         Sign::Signed => {
-            let answers = signed_shift_gate(expander, expander, expander, job.shift, job.mask, &job.words, low0, high0, low1, high1, held);
-            print_answers(rt, Held(m, None), answers, plain_signed_shift(job.shift, value))
+            let answers = signed_shift_gate(
+                expander,
+                expander,
+                expander,
+                job.shift,
+                job.mask,
+                &job.words,
+                low0,
+                high0,
+                low1,
+                high1,
+                held,
+            );
+            print_answers(
+                rt,
+                Held(m, None),
+                answers,
+                plain_signed_shift(job.shift, value),
+            )
         }
     }
 }
@@ -429,14 +620,36 @@ fn hold_shift<X: Expander>(
     let mut high0 = Rows::over(&mut memory1[0..count1]);
     let mut low1 = Rows::over(&mut memory2[0..count2]);
     let mut high1 = Rows::over(&mut memory3[0..count3]);
-    hold_shift_over(rt, expander, job, sign, m, &mut low0, &mut high0, &mut low1, &mut high1)
+    hold_shift_over(
+        rt,
+        expander,
+        job,
+        sign,
+        m,
+        &mut low0,
+        &mut high0,
+        &mut low1,
+        &mut high1,
+    )
 }
 
 fn hold_product(rt: &LibcRuntime, job: &ProductJob, m: u32, k: u32) -> io::Result<bool> {
-    let answers = product_gate(job.width, job.mask, job.mask2, &job.words, Masked(m), Masked(k));
+    let answers = product_gate(
+        job.width,
+        job.mask,
+        job.mask2,
+        &job.words,
+        Masked(m),
+        Masked(k),
+    );
     let v = Masked(m).unmask(job.width, job.mask);
     let w = Masked(k).unmask(job.width, job.mask2);
-    print_answers(rt, Held(m, Some(k)), answers, plain_product(job.width, v, w))
+    print_answers(
+        rt,
+        Held(m, Some(k)),
+        answers,
+        plain_product(job.width, v, w),
+    )
 }
 
 fn print_local(rt: &LibcRuntime, held: Held, joined: u32, plain: Reading) -> io::Result<bool> {
@@ -445,15 +658,33 @@ fn print_local(rt: &LibcRuntime, held: Held, joined: u32, plain: Reading) -> io:
     Ok(true)
 }
 
-fn hold_sum(rt: &LibcRuntime, width: Width, mask: u32, mask2: u32, m: u32, k: u32) -> io::Result<bool> {
+fn hold_sum(
+    rt: &LibcRuntime,
+    width: Width,
+    mask: u32,
+    mask2: u32,
+    m: u32,
+    k: u32,
+) -> io::Result<bool> {
     if !width.has(m) || !width.has(k) {
         return print_refusal(rt, Refusal::KeyRange);
     }
-    let plain = plain_sum(width, Masked(m).unmask(width, mask), Masked(k).unmask(width, mask2));
+    let plain = plain_sum(
+        width,
+        Masked(m).unmask(width, mask),
+        Masked(k).unmask(width, mask2),
+    );
     print_local(rt, Held(m, Some(k)), sum(width, m, k), plain)
 }
 
-fn hold_scale(rt: &LibcRuntime, width: Width, mask: u32, c: u32, d: u32, m: u32) -> io::Result<bool> {
+fn hold_scale(
+    rt: &LibcRuntime,
+    width: Width,
+    mask: u32,
+    c: u32,
+    d: u32,
+    m: u32,
+) -> io::Result<bool> {
     if !width.has(m) {
         return print_refusal(rt, Refusal::KeyRange);
     }
@@ -496,8 +727,22 @@ fn hold_local_two(rt: &LibcRuntime, job: LocalJob, m: u32, k: u32) -> io::Result
 // A gate that reads one value.
 fn hold_one<X: Expander>(rt: &LibcRuntime, expander: &X, job: Job, m: u32) -> io::Result<bool> {
     match job {
-        Job::Piece(job) => hold_piece_over(rt, expander, &job, m, &mut [blank(); 32], &mut [blank(); 32]),
-        Job::Flag(job) => hold_flag_over(rt, expander, &job, m, &mut [blank(); 32], &mut [blank(); 32]),
+        Job::Piece(job) => hold_piece_over(
+            rt,
+            expander,
+            &job,
+            m,
+            &mut [blank(); 32],
+            &mut [blank(); 32],
+        ),
+        Job::Flag(job) => hold_flag_over(
+            rt,
+            expander,
+            &job,
+            m,
+            &mut [blank(); 32],
+            &mut [blank(); 32],
+        ),
         Job::Shift(job) => hold_shift_job(rt, expander, &job, Sign::Unsigned, m),
         Job::Signed(job) => hold_shift_job(rt, expander, &job, Sign::Signed, m),
         Job::Product(_) => two_values(rt),
@@ -505,8 +750,24 @@ fn hold_one<X: Expander>(rt: &LibcRuntime, expander: &X, job: Job, m: u32) -> io
     }
 }
 
-fn hold_shift_job<X: Expander>(rt: &LibcRuntime, expander: &X, job: &ShiftJob, sign: Sign, m: u32) -> io::Result<bool> {
-    hold_shift(rt, expander, job, sign, m, &mut [blank(); 32], &mut [blank(); 32], &mut [blank(); 32], &mut [blank(); 32])
+fn hold_shift_job<X: Expander>(
+    rt: &LibcRuntime,
+    expander: &X,
+    job: &ShiftJob,
+    sign: Sign,
+    m: u32,
+) -> io::Result<bool> {
+    hold_shift(
+        rt,
+        expander,
+        job,
+        sign,
+        m,
+        &mut [blank(); 32],
+        &mut [blank(); 32],
+        &mut [blank(); 32],
+        &mut [blank(); 32],
+    )
 }
 
 // A gate that reads two values.
@@ -518,7 +779,13 @@ fn hold_two(rt: &LibcRuntime, job: Job, m: u32, k: u32) -> io::Result<bool> {
     }
 }
 
-fn hold_with<X: Expander>(rt: &LibcRuntime, expander: &X, job: &Job, m: u32, k: Option<u32>) -> io::Result<bool> {
+fn hold_with<X: Expander>(
+    rt: &LibcRuntime,
+    expander: &X,
+    job: &Job,
+    m: u32,
+    k: Option<u32>,
+) -> io::Result<bool> {
     match k {
         None => hold_one(rt, expander, *job, m),
         Some(k) => hold_two(rt, *job, m, k),

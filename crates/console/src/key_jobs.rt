@@ -1,4 +1,14 @@
 // Orders about comparison keys.
+use crate::show::Element;
+use crate::show::FlagsElement;
+use crate::show::Numbers;
+use crate::show::NumbersDisplay;
+use crate::show::PairElement;
+use crate::show::WordElement;
+use crate::show::blank;
+use crate::show::print_refusal;
+use crate::show::print_rows;
+use crate::show::row_count;
 use aes::Aes128;
 use aes::Aes128Expander;
 use chacha::ChaCha20;
@@ -22,17 +32,6 @@ use orders::Payload;
 use std::io;
 use zero::Zero;
 use zero::ZeroExpander;
-
-use crate::show::Element;
-use crate::show::FlagsElement;
-use crate::show::Numbers;
-use crate::show::NumbersDisplay;
-use crate::show::PairElement;
-use crate::show::WordElement;
-use crate::show::blank;
-use crate::show::print_refusal;
-use crate::show::print_rows;
-use crate::show::row_count;
 
 // What to do with a key.
 #[derive(Clone, Copy)]

@@ -31,7 +31,10 @@ fn print_fault(rt: &LibcRuntime, fault: Fault) -> io::Result<()> {
 
 impl Session {
     pub fn new() -> Session {
-        Session { key: None, gate: None }
+        Session {
+            key: None,
+            gate: None,
+        }
     }
 
     fn deal(&mut self, rt: &LibcRuntime, order: DealOrder) -> io::Result<()> {

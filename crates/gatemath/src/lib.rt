@@ -1,12 +1,11 @@
 // The arithmetic of the gates, without keys: each function is one definition of the rules.
-mod flag;
 mod counts;
+mod flag;
 mod piece;
 mod product;
 mod shift;
 mod splits;
 
-pub use flag::flag_share;
 pub use counts::after_end;
 pub use counts::extra_for;
 pub use counts::once;
@@ -14,6 +13,7 @@ pub use counts::once_less;
 pub use counts::part_of;
 pub use counts::point_for;
 pub use counts::threshold_for;
+pub use flag::flag_share;
 pub use piece::payload_for;
 pub use piece::piece_share;
 pub use piece::quad_of;

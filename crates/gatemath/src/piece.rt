@@ -55,7 +55,12 @@ fn horner(answer: Quad, m: u32) -> u64
     ensures { λ r. ⌜ r ≡ by-horner (answer .left .left .0) (answer .left .right .0) (answer .right .left .0) (answer .right .right .0) m ⌝ }
 {
     let x = m as u64;
-    let high = answer.right.right.0.wrapping_mul(x).wrapping_add(answer.right.left.0);
+    let high = answer
+        .right
+        .right
+        .0
+        .wrapping_mul(x)
+        .wrapping_add(answer.right.left.0);
     let low = high.wrapping_mul(x).wrapping_add(answer.left.right.0);
     low.wrapping_mul(x).wrapping_add(answer.left.left.0)
 }

@@ -101,7 +101,14 @@ pub fn signed_point(width: Width, m: u32) -> u32
 }
 
 // A box's share of a signed shift, from its keys' answers at the signed point and its part of the rest.
-pub fn signed_share(number: BoxNumber, shift: Shift, m: u32, low: Word, high: Word, rest: u32) -> u32
+pub fn signed_share(
+    number: BoxNumber,
+    shift: Shift,
+    m: u32,
+    low: Word,
+    high: Word,
+    rest: u32,
+) -> u32
     ensures { λ r. ⌜ r ≡ signed-share (is-one number) (size (shift .width)) (step-of shift) m (word-mean low .0) (word-mean high .0) rest ⌝ }
 {
     let more = signed_more_for(number, shift, signed_point(shift.width(), m));
