@@ -1,4 +1,6 @@
 // The console: carries out orders, one a line, and prints their answers. docs/CONSOLE.md has the lines.
+ghost use mathlib.Core.Path.{_≡_};
+ghost use Rattle.std.specs.declared.option.Option.the-variants.{None};
 use orders::DealOrder;
 use orders::Fault;
 use orders::GateOrder;
@@ -30,7 +32,10 @@ fn print_fault(rt: &LibcRuntime, fault: Fault) -> io::Result<()> {
 }
 
 impl Session {
-    pub fn new() -> Session {
+    // A session that remembers nothing yet.
+    pub fn new() -> Session
+        ensures { λ r. ⌜ (r .key ≡ None) × (r .gate ≡ None) ⌝ }
+    {
         Session {
             key: None,
             gate: None,

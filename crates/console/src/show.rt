@@ -1,4 +1,6 @@
 // Seeds, elements, rows and refusals as text.
+ghost use mathlib.Core.Path.{_≡_};
+ghost use mathlib.Core.Bool.{cond};
 ghost use Prim.Native.Nat.{_≤_};
 use expander::Seed;
 use group::Flags;
@@ -61,7 +63,9 @@ pub impl<G: Element> fmt::Display for Numbers<G> as NumbersDisplay {
 }
 
 // A bit as 0 or 1.
-pub fn digit(bit: bool) -> u8 {
+pub fn digit(bit: bool) -> u8
+    ensures { λ r. ⌜ r ≡ cond bit 1 0 ⌝ }
+{
     if bit { 1 } else { 0 }
 }
 

@@ -1,4 +1,4 @@
-// A gate key is fresh, then half, then joined: three types that move, so that a key answers once and is joined once.
+// The states of a gate key, as types that move: a key answers once and is joined once.
 ghost use mathlib.Core.Path.{_≡_};
 ghost use Prim.Native.Nat.{ℕ};
 ghost use Rattle.masking.specs.Masking.{size};

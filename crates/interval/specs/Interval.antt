@@ -42,7 +42,7 @@ module _ {M : Type 0} (g : OutputGroup M) where
   abbrev pub net : Bool → Bool → M → M
   net a b x = minus g (taken a x) (taken b x)
 
-  -- E: the payload β taken 1{P > Q} − 1{P > p} + 1{Q' > q'} + 1{Q = N − 1} times, where q' is the number after q
+  -- E: the payload β once for each of P > Q, Q' > q' and Q = N − 1, and less once for P > p
   -- and P, Q and Q' are p, q and q' with the mask on them
   abbrev pub extra : ℕ → ℕ → ℕ → ℕ → M → M
   extra N r p q β =

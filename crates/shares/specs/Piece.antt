@@ -39,7 +39,7 @@ moved2 r c2 c3 = less c2 (multiplied (multiplied c3 3) r)
 abbrev pub piece-payload : ℕ → ℕ → ℕ → ℕ → ℕ → Quad
 piece-payload r c0 c1 c2 c3 = quad (moved0 r c0 c1 c2 c3) (moved1 r c1 c2 c3) (moved2 r c2 c3) c3
 
--- a box's share: each answer word times its power of m, plus the box's part of the output mask
+-- a box's share: the cubic in m whose coefficients are the answer's words, and the box's part of the output mask
 abbrev pub piece-share : ℕ → ℕ → ℕ → ℕ → ℕ → ℕ → ℕ → ℕ
 piece-share N m w0 w1 w2 w3 out = (curve w0 w1 w2 w3 m + out) % N
 

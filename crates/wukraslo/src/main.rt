@@ -51,7 +51,13 @@ fn example(rt: &LibcRuntime) -> Result<(), AnyError> {
 }
 
 // Deals one gate and works it at held values.
-fn gate(rt: &LibcRuntime, session: &mut Session, text: &str, deal: &str, hold: &str) -> Result<(), AnyError> {
+fn gate(
+    rt: &LibcRuntime,
+    session: &mut Session,
+    text: &str,
+    deal: &str,
+    hold: &str,
+) -> Result<(), AnyError> {
     println!(rt, "{text}")?;
     order(rt, session, deal)?;
     order(rt, session, hold)
@@ -99,14 +105,35 @@ fn number_gates(rt: &LibcRuntime, session: &mut Session) -> Result<(), AnyError>
         "gate 1 product 4 3 5 2,71,72,73",
         "hold 7 11",
     )?;
-    gate(rt, session, "A sum, worked by each box alone, on held values and on masks:", "gate 1 sum 4 3 5", "hold 7 11")?;
-    gate(rt, session, "A scale: 3 v + 4. The 4 goes into the held value only:", "gate 1 scale 4 3 3 4", "hold 7")?;
-    gate(rt, session, "An xor of two flag wires, masks 3 and 5:", "gate 1 xor 4 3 5", "hold 7 11")
+    gate(
+        rt,
+        session,
+        "A sum, worked by each box alone, on held values and on masks:",
+        "gate 1 sum 4 3 5",
+        "hold 7 11",
+    )?;
+    gate(
+        rt,
+        session,
+        "A scale: 3 v + 4. The 4 goes into the held value only:",
+        "gate 1 scale 4 3 3 4",
+        "hold 7",
+    )?;
+    gate(
+        rt,
+        session,
+        "An xor of two flag wires, masks 3 and 5:",
+        "gate 1 xor 4 3 5",
+        "hold 7 11",
+    )
 }
 
 fn gates(rt: &LibcRuntime) -> Result<(), AnyError> {
     let mut session = Session::new();
-    println!(rt, "Gates on masked numbers, at width 4: both boxes' shares join to the plain meaning plus the output mask.")?;
+    println!(
+        rt,
+        "Gates on masked numbers, at width 4: both boxes' shares join to the plain meaning plus the output mask."
+    )?;
     interval_gates(rt, &mut session)?;
     shift_gates(rt, &mut session)?;
     number_gates(rt, &mut session)
