@@ -32,7 +32,8 @@ module _ {G M : Type 0} (g : OutputGroup M) (mean : G → M) (d : Expansion) (n 
     (rows-are : map (row-mean mean) rows ≡ dealt-rows d g β α n (start g root0 root1))
     (last-is : mean last ≡ dealt-last d g β α n (start g root0 root1)) where
   -- evaluating the dealt rows is evaluating the defined ones
-  answer-is : (x : Expansion) (one : Bool) (root : Seed) (a : G) → mean a ≡ evaluated x g mean one root rows last m → mean a ≡ dealt-answer g d x n α β root0 root1 one root m
+  answer-is : (x : Expansion) (one : Bool) (root : Seed) (a : G) → mean a ≡ evaluated x g mean one root rows last m
+      → mean a ≡ dealt-answer g d x n α β root0 root1 one root m
   answer-is x one root a e =
       e ∙ same-evaluated x g mean one root rows last m
       ∙ ap (λ rs. evaluated x g (λ (v : M). v) one root rs (mean last) m) rows-are

@@ -20,12 +20,14 @@ module _ {G M : Type 0} (x : Expansion) (g : OutputGroup M) (mean : G → M) (β
 
   pub rows-end : (xs : List (Row G)) (i left : ℕ) (d : Descent M) → length xs ≤ i → left ≡ 0 → map (row-mean mean) xs ≡ dealing xs i left d
   rows-end xs i left d h e =
-      sym (append-nil (map (row-mean mean) xs)) ∙ ap (λ l. map (row-mean mean) l ++ []) (sym (take-all i xs h)) ∙ ap (λ n. map (row-mean mean) (take i xs) ++ dealt-rows x g β α n d) (sym e)
+      sym (append-nil (map (row-mean mean) xs)) ∙ ap (λ l. map (row-mean mean) l ++ []) (sym (take-all i xs h)) ∙ ap (λ n. map (row-mean mean)
+      (take i xs) ++ dealt-rows x g β α n d) (sym e)
 
   pub last-end : (left : ℕ) (d : Descent M) → left ≡ 0 → final-from x g d ≡ dealt-last x g β α left d
   last-end left d e = ap (λ n. dealt-last x g β α n d) (sym e)
 
-  module _ (d d' : Descent M) (k left : ℕ) (bit : Bool) (b0 b1 : Branches) (row : Row G) (is : left ≡ suc k) (eb : bit ≡ bit-at α k) (e0 : b0 ≡ x .branch (d .seed0)) (e1 : b1 ≡ x .branch (d .seed1))
+  module _ (d d' : Descent M) (k left : ℕ) (bit : Bool) (b0 b1 : Branches) (row : Row G) (is : left ≡ suc k) (eb : bit ≡ bit-at α k) (e0 : b0 ≡ x .branch
+      (d .seed0)) (e1 : b1 ≡ x .branch (d .seed1))
       (er : row-mean mean row ≡ row-from x g β bit d b0 b1) (ed : d' ≡ next-from x g bit d b0 b1 (row-mean mean row)) where
     row-is : row-mean mean row ≡ row-at x g β (bit-at α k) d
     row-is = er ∙ ap (λ b. row-from x g β bit d b b1) e0 ∙ ap (λ b. row-from x g β bit d (x .branch (d .seed0)) b) e1 ∙ ap (λ c. row-at x g β c d) eb

@@ -1,18 +1,11 @@
 // A box's share of a product.
 ghost use mathlib.Core.Path.{_≡_};
-ghost use mathlib.Core.Bool.{cond};
 ghost use Rattle.key.specs.Rows.{is-one};
 ghost use Rattle.masking.specs.Masking.{size};
 ghost use Rattle.shares.specs.Product.{product-share};
+use crate::splits::number_if;
 use key::BoxNumber;
 use masking::Width;
-
-// A number if a test holds, otherwise 0.
-fn number_if(yes: bool, number: u64) -> u64
-    ensures { λ r. ⌜ r ≡ cond yes number 0 ⌝ }
-{
-    if yes { number } else { 0 }
-}
 
 // C − m × B − k × A, to which box 1 adds m × k.
 pub fn product_share(number: BoxNumber, width: Width, m: u32, k: u32, a: u32, b: u32, c: u32) -> u32

@@ -7,6 +7,7 @@ ghost use Rattle.masking.specs.Masking.{size};
 ghost use Rattle.shares.specs.Words.{word};
 ghost use Rattle.shares.specs.Shifts.{low-payload, shift-rest, shift-share, signed-held, signed-share};
 ghost use Rattle.gatemath.specs.Elements.{step-of, word-mean};
+use crate::splits::number_if;
 use gatekeys::Shift;
 use group::Word;
 use key::BoxNumber;
@@ -57,11 +58,7 @@ fn more_for(number: BoxNumber, shift: Shift, m: u32) -> u64
     ensures is { λ r. ⌜ r ≡ cond (is-one number) (m / step-of shift) 0 ⌝ }
     ensures small { λ r. ⌜ r < 2 ^ 34 ⌝ }
 {
-    if number.is_one() {
-        steps_in(shift, m)
-    } else {
-        0
-    }
+    number_if(number.is_one(), steps_in(shift, m))
 }
 
 // What box 1 adds to a signed shift: floor(k / S) less the steps of one half.
@@ -71,11 +68,10 @@ fn signed_more_for(number: BoxNumber, shift: Shift, k: u32) -> u64
 {
     let size = shift.width().size();
     let half = size / 2 / step_size(shift);
-    if number.is_one() {
-        steps_in(shift, k) + size.saturating_sub(half)
-    } else {
-        0
-    }
+    number_if(
+        number.is_one(),
+        steps_in(shift, k) + size.saturating_sub(half),
+    )
 }
 
 // Two answers, the rest, and what box 1 adds, modulo N.

@@ -1,5 +1,6 @@
-// A box's part of what is split.
+// A box's part of what is split, and what one box adds alone.
 ghost use mathlib.Core.Path.{_≡_};
+ghost use mathlib.Core.Bool.{cond};
 ghost use Prim.Native.Nat.{_%_, _^_};
 ghost use Rattle.key.specs.Rows.{is-one};
 ghost use Rattle.masking.specs.Masking.{size};
@@ -32,4 +33,11 @@ pub fn flags_part(number: BoxNumber, all: u32, random: u64) -> u32
 {
     let drawn = low_half(random);
     if number.is_one() { drawn } else { all ^ drawn }
+}
+
+// A number if a test holds, otherwise 0.
+pub(crate) fn number_if(yes: bool, number: u64) -> u64
+    ensures { λ r. ⌜ r ≡ cond yes number 0 ⌝ }
+{
+    if yes { number } else { 0 }
 }

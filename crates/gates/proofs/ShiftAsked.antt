@@ -37,7 +37,8 @@ module _ (s : Shift) {l l' h h' : ℕ} (hl : l ≡ l') (hh : h ≡ h') where
 module _ (s : Shift) (r m : ℕ) {a a' b b' c c' d d' : ℕ} (ha : a ≡ a') (hb : b ≡ b') (hc : c ≡ c') (hd : d ≡ d') where
   same-shift-asks : shift-asks s r m a b c d ≡ shift-asks s r m a' b' c' d'
   same-shift-asks =
-      ap (λ t. shift-asks s r m t b c d) ha ∙ ap (λ t. shift-asks s r m a' t c d) hb ∙ ap (λ t. shift-asks s r m a' b' t d) hc ∙ ap (shift-asks s r m a' b' c') hd
+      ap (λ t. shift-asks s r m t b c d) ha ∙ ap (λ t. shift-asks s r m a' t c d) hb ∙ ap (λ t. shift-asks s r m a' b' t d) hc ∙ ap
+      (shift-asks s r m a' b' c') hd
 
   pub shift-refused : {Y : Type 0} (e : Refusal) (y : Y) → Err e ≡ answered (shift-asks s r m a b c d) (tt {0})
       → answered (shift-asks s r m a' b' c' d') y ≡ Err e

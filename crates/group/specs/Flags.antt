@@ -18,7 +18,8 @@ pub flag-laws : GroupLaws (reduce (2 ^ 32) 0) flag-sum (λ x. x)
 flag-laws = record {
   neutral = λ x. residue-path (2 ^ 32) _ x (xor-fits (reduce (2 ^ 32) 0) x ∙ xor-zero-l (x .0));
   assoc = λ x y z. residue-path (2 ^ 32) _ _
-      (ap (λ n. bitXor n (z .0) % 2 ^ 32) (xor-fits x y) ∙ ap (λ n. n % 2 ^ 32) (xor-assoc (x .0) (y .0) (z .0)) ∙ sym (ap (λ n. bitXor (x .0) n % 2 ^ 32) (xor-fits y z)));
+      (ap (λ n. bitXor n (z .0) % 2 ^ 32) (xor-fits x y) ∙ ap (λ n. n % 2 ^ 32) (xor-assoc (x .0) (y .0) (z .0)) ∙ sym (ap (λ n. bitXor (x .0) n % 2 ^ 32)
+      (xor-fits y z)));
   comm = λ x y. residue-path (2 ^ 32) _ _ (ap (λ n. n % 2 ^ 32) (xor-comm (x .0) (y .0)));
   cancel = λ x. residue-path (2 ^ 32) _ _ (ap (λ n. n % 2 ^ 32) (xor-self (x .0)));
 }

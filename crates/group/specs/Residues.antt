@@ -30,7 +30,8 @@ residue-laws m pos = record {
       (mod-add-mod (x .0 + y .0) m (z .0) ∙ ap (λ n. n % m) (add-assoc (x .0) (y .0) (z .0)) ∙ sym (add-mod-mod (x .0) (y .0 + z .0) m));
   comm = λ x y. residue-path m _ _ (ap (λ n. n % m) (add-comm (x .0) (y .0)));
   cancel = λ x. residue-path m _ _
-      (mod-add-mod (m - x .0) m (x .0) ∙ ap (λ n. n % m) (let h : x .0 < m = omega (arith, mod-lt (x .0) pos, x .1) in omega arith) ∙ mod-self m ∙ sym (zero-mod m));
+      (mod-add-mod (m - x .0) m (x .0) ∙ ap (λ n. n % m) (let h : x .0 < m = omega (arith, mod-lt (x .0) pos, x .1) in omega arith) ∙ mod-self m ∙ sym
+      (zero-mod m));
 }
 
 pub reduce-sum : (m a b : ℕ) → reduce m ((a + b) % m) ≡ residue-sum m (reduce m a) (reduce m b)

@@ -1,4 +1,4 @@
-pub mod Abelian
+pub mod Sums
 pub mod Meeting
 pub mod Order
 pub mod Same

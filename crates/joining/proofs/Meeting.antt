@@ -20,7 +20,7 @@ use Rattle.dealing.specs.declared.Descent.{Descent}
 use Rattle.dealing.specs.Dealing.{next-seed, next-control, row-at, next-at, dealt-rows, dealt-last, draw, signed, cancelling, start}
 use Rattle.joining.specs.Joining.{AllWide, dealt-answer, compared}
 use Rattle.joining.proofs.Order.{pick, below, below-is}
-use Rattle.joining.proofs.Abelian.{both-add, cancel-r, step-sum, gone-signed, left-over}
+use Rattle.joining.proofs.Sums.{both-add, cancel-r, step-sum, gone-signed, left-over}
 
 zip-back : (a b : List ℕ) → length a ≡ length b → zip2 bitXor a (zip2 bitXor a b) ≡ b
 zip-back [] [] h = refl
@@ -88,7 +88,8 @@ module _ {M : Type 0} (x : Expansion) (g : OutputGroup M) (β : M) (α m : ℕ) 
   off (r ∷ rs) last s true a b =
       let right : Bool = bit-at m (length rs) in
       let c : M = draw x g (side-of (x .branch s) right .value) in
-      off rs last (xor-seeds (side-of (x .branch s) right .seed) (r .word)) (differ (side-of (x .branch s) right .bit) (row-bit r right)) (g .sum (g .sum a c) (r .element)) (g .sum (g .sum b c) (r .element))
+      off rs last (xor-seeds (side-of (x .branch s) right .seed) (r .word)) (differ (side-of (x .branch s) right .bit) (row-bit r right)) (g .sum
+      (g .sum a c) (r .element)) (g .sum (g .sum b c) (r .element))
       ∙ both-add (g .laws) (g .sum a c) (g .sum b c) (r .element) ∙ both-add (g .laws) a b c
   off (r ∷ rs) last s false a b =
       let right : Bool = bit-at m (length rs) in
@@ -102,7 +103,8 @@ module _ {M : Type 0} (x : Expansion) (g : OutputGroup M) (β : M) (α m : ℕ) 
 
   step-is : (r : Row M) (right : Bool) (s : Seed) (t : Bool) (a : M)
       → stepped x g (λ v. v) r right (at s t a)
-      ≡ at (next-seed t (side-of (x .branch s) right .seed) (r .word)) (next-control t (side-of (x .branch s) right .bit) (row-bit r right)) (add-row t a (draw x g (side-of (x .branch s) right .value)) (r .element))
+      ≡ at (next-seed t (side-of (x .branch s) right .seed) (r .word)) (next-control t (side-of (x .branch s) right .bit) (row-bit r right)) (add-row t a
+      (draw x g (side-of (x .branch s) right .value)) (r .element))
   step-is r right s true a = refl
   step-is r right s false a = refl
 
@@ -140,7 +142,8 @@ module _ {M : Type 0} (x : Expansion) (g : OutputGroup M) (β : M) (α m : ℕ) 
 
   steps : (rs : List (Row M)) (last : M) (r : Row M) (right : Bool) (s0 s1 : Seed) (t0 t1 : Bool) (a b : M)
       → joined rs last (stepped x g (λ v. v) r right (at s0 t0 a)) (stepped x g (λ v. v) r right (at s1 t1 b))
-      ≡ joined rs last (at (seed-after r right s0 t0) (control-after r right s0 t0) (sum-after r right s0 t0 a)) (at (seed-after r right s1 t1) (control-after r right s1 t1) (sum-after r right s1 t1 b))
+      ≡ joined rs last (at (seed-after r right s0 t0) (control-after r right s0 t0) (sum-after r right s0 t0 a)) (at (seed-after r right s1 t1)
+      (control-after r right s1 t1) (sum-after r right s1 t1 b))
   steps rs last r right s0 s1 t0 t1 a b =
       ap (λ w. joined rs last w (stepped x g (λ v. v) r right (at s1 t1 b))) (step-is r right s0 t0 a)
       ∙ ap (λ w. joined rs last (at (seed-after r right s0 t0) (control-after r right s0 t0) (sum-after r right s0 t0 a)) w) (step-is r right s1 t1 b)
@@ -178,7 +181,8 @@ module _ {M : Type 0} (x : Expansion) (g : OutputGroup M) (β : M) (α m : ℕ) 
       let rs : List (Row M) = dealt-rows x g β α k d' in
       let last : M = dealt-last x g β α k d' in
       steps rs last r false s0 s1 (not t) t a b
-      ∙ met rs last (seed-after r false s0 (not t)) (seed-after r false s1 t) (control-after r false s0 (not t)) (control-after r false s1 t) (sum-after r false s0 (not t) a) (sum-after r false s1 t b)
+      ∙ met rs last (seed-after r false s0 (not t)) (seed-after r false s1 t) (control-after r false s0 (not t)) (control-after r false s1 t)
+      (sum-after r false s0 (not t) a) (sum-after r false s1 t b)
       (seeds-meet t (x .branch s0 .left) (x .branch s1 .left) (wide s0 .left ∙ sym (wide s1 .left)))
       (controls-fixed t (x .branch s0 .«left_bit») (x .branch s1 .«left_bit»))
       ∙ step-sum (g .laws) t a b (draw-at false s0) (draw-at false s1) (r .element)
@@ -190,7 +194,8 @@ module _ {M : Type 0} (x : Expansion) (g : OutputGroup M) (β : M) (α m : ℕ) 
       let rs : List (Row M) = dealt-rows x g β α k d' in
       let last : M = dealt-last x g β α k d' in
       steps rs last r true s0 s1 (not t) t a b
-      ∙ met rs last (seed-after r true s0 (not t)) (seed-after r true s1 t) (control-after r true s0 (not t)) (control-after r true s1 t) (sum-after r true s0 (not t) a) (sum-after r true s1 t b)
+      ∙ met rs last (seed-after r true s0 (not t)) (seed-after r true s1 t) (control-after r true s0 (not t)) (control-after r true s1 t)
+      (sum-after r true s0 (not t) a) (sum-after r true s1 t b)
       (seeds-meet t (x .branch s0 .right) (x .branch s1 .right) (wide s0 .right ∙ sym (wide s1 .right)))
       (controls-fixed t (x .branch s0 .«right_bit») (x .branch s1 .«right_bit»))
       ∙ step-sum (g .laws) t a b (draw-at true s0) (draw-at true s1) (r .element)

@@ -41,7 +41,8 @@ below-mod : (k m α : ℕ) → below k m α ≡ ltb (m % 2 ^ k) (α % 2 ^ k)
 below-mod zero m α = sym (le-ltb (m % 1) (α % 1) (omega (arith, mod-one m, mod-one α)))
 below-mod (suc k) m α =
     ap (pick (bit-at α k) (bit-at m k)) (below-mod k m α)
-    ∙ digit (m % 2 ^ k) (α % 2 ^ k) (2 ^ k) (m / 2 ^ k % 2) (α / 2 ^ k % 2) (mod-lt m (pow-pos k)) (mod-lt α (pow-pos k)) (mod-lt (m / 2 ^ k) (lit< tt)) (mod-lt (α / 2 ^ k) (lit< tt))
+    ∙ digit (m % 2 ^ k) (α % 2 ^ k) (2 ^ k) (m / 2 ^ k % 2) (α / 2 ^ k % 2) (mod-lt m (pow-pos k)) (mod-lt α (pow-pos k)) (mod-lt (m / 2 ^ k) (lit< tt))
+    (mod-lt (α / 2 ^ k) (lit< tt))
     ∙ sym (ap (λ n. ltb n (α % 2 ^ suc k)) (bit-split m k) ∙ ap (λ n. ltb ((m / 2 ^ k % 2) * 2 ^ k + m % 2 ^ k) n) (bit-split α k))
 
 pub below-is : (n m α : ℕ) → m < 2 ^ n → α < 2 ^ n → below n m α ≡ ltb m α

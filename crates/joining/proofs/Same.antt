@@ -21,7 +21,8 @@ module _ {G M : Type 0} (x : Expansion) (g : OutputGroup M) (mean : G → M) whe
   same-walk [] m w = refl
   same-walk (r ∷ rs) m w =
       same-walk rs m (stepped x g mean r (bit-at m (length rs)) w)
-      ∙ ap (walked x g (λ v. v) (map (row-mean mean) rs) m) (same-step r (bit-at m (length rs)) w ∙ ap (λ n. stepped x g (λ v. v) (row-mean mean r) (bit-at m n) w) (sym (length-map rs (row-mean mean))))
+      ∙ ap (walked x g (λ v. v) (map (row-mean mean) rs) m) (same-step r (bit-at m (length rs)) w ∙ ap (λ n. stepped x g (λ v. v) (row-mean mean r)
+      (bit-at m n) w) (sym (length-map rs (row-mean mean))))
 
   pub same-evaluated : (one : Bool) (root : Seed) (rows : List (Row G)) (last : G) (m : ℕ)
       → evaluated x g mean one root rows last m ≡ evaluated x g (λ v. v) one root (map (row-mean mean) rows) (mean last) m

@@ -53,10 +53,12 @@ returns g c =
     let rows-are = ap (map (row-mean (m .mean))) (c .as-slice .ensures) ∙ c .deal-last .ensures .rows ∙ ap (λ k. dealt-rows d (m .group) β α k st) all in
     let last-is = c .deal-last .ensures .last ∙ ap (λ k. dealt-last d (m .group) β α k st) all in
     record {
-      answers = ap Ok (answers-are (m .group) (m .mean) d w α β r0 r1 p rows last rows-are last-is x y (both .answer0) (both .answer1) (both .joined) (said .zero) (said .one) (said .sum))
+      answers = ap Ok (answers-are (m .group) (m .mean) d w α β r0 r1 p rows last rows-are last-is x y (both .answer0) (both .answer1) (both .joined)
+          (said .zero) (said .one) (said .sum))
           ∙ sym (accepted w (c .both-in-range .ensures) (c .count .ensures) (c .words .ensures .count) u _ asked);
       joins = λ ex ey.
-          ap Ok (join-is (m .group) (m .mean) d w α β r0 r1 p rows last rows-are last-is x y (both .answer0) (both .answer1) (both .joined) (said .zero) (said .one) (said .sum)
+          ap Ok (join-is (m .group) (m .mean) d w α β r0 r1 p rows last rows-are last-is x y (both .answer0) (both .answer1) (both .joined) (said .zero)
+          (said .one) (said .sum)
           (g .D·Expander·met .wide) ex ey (fits-yes w fits n (m .group .count) (tt {0}) (tt {0}) done))
           ∙ sym (accepted w (c .both-in-range .ensures) (c .count .ensures) (c .words .ensures .count) u _ asked);
       rows = c .deal-last .ensures .rows ∙ ap (λ k. dealt-rows d (m .group) β α k st) all;

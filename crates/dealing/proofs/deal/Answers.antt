@@ -42,9 +42,11 @@ loop-i-again g c =
       c .put .ensures .same ∙ inv .1,
       omega (arith, inv .2, is),
       ap (λ ys. dealing x (m .group) (m .mean) β α ys (i + 1) (left - 1) d') (c .put .ensures .rows)
-          ∙ rows-next x (m .group) (m .mean) β α d d' (left - 1) left (c .bit-at-bit .result) (c .branch-b0 .result) (c .branch-b1 .result) row is (c .bit-at-bit .ensures) (c .branch-b0 .ensures) (c .branch-b1 .ensures) (c .row-for-row .ensures) (c .next-for-at .ensures) xs i lt
+          ∙ rows-next x (m .group) (m .mean) β α d d' (left - 1) left (c .bit-at-bit .result) (c .branch-b0 .result) (c .branch-b1 .result) row is
+          (c .bit-at-bit .ensures) (c .branch-b0 .ensures) (c .branch-b1 .ensures) (c .row-for-row .ensures) (c .next-for-at .ensures) xs i lt
           ∙ inv .3,
-      last-next x (m .group) (m .mean) β α d d' (left - 1) left (c .bit-at-bit .result) (c .branch-b0 .result) (c .branch-b1 .result) row is (c .bit-at-bit .ensures) (c .branch-b0 .ensures) (c .branch-b1 .ensures) (c .row-for-row .ensures) (c .next-for-at .ensures)
+      last-next x (m .group) (m .mean) β α d d' (left - 1) left (c .bit-at-bit .result) (c .branch-b0 .result) (c .branch-b1 .result) row is
+          (c .bit-at-bit .ensures) (c .branch-b0 .ensures) (c .branch-b1 .ensures) (c .row-for-row .ensures) (c .next-for-at .ensures)
           ∙ inv .4,
     )
 

@@ -16,5 +16,7 @@ Inv-loop-i g l =
     (length (now (l .rows .rows)) ≡ n)
     × (name (l .rows .rows) ≡ name (l .entry .rows .rows))
     × (l .left + l .i ≡ n)
-    × (dealing x (m .group) (m .mean) β (l .threshold) (now (l .rows .rows)) (l .i) (l .left) (descent-mean (m .mean) (l .at)) ≡ dealt-rows x (m .group) β (l .threshold) n (descent-mean (m .mean) (l .entry .at)))
-    × (dealt-last x (m .group) β (l .threshold) (l .left) (descent-mean (m .mean) (l .at)) ≡ dealt-last x (m .group) β (l .threshold) n (descent-mean (m .mean) (l .entry .at)))
+    × (dealing x (m .group) (m .mean) β (l .threshold) (now (l .rows .rows)) (l .i) (l .left) (descent-mean (m .mean) (l .at)) ≡ dealt-rows x (m .group) β
+    (l .threshold) n (descent-mean (m .mean) (l .entry .at)))
+    × (dealt-last x (m .group) β (l .threshold) (l .left) (descent-mean (m .mean) (l .at)) ≡ dealt-last x (m .group) β (l .threshold) n (descent-mean
+    (m .mean) (l .entry .at)))
