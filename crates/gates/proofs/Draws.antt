@@ -26,3 +26,9 @@ module _ {M : Type 0} where
     key-alike b {o} {o'} ho =
         ap (λ t. dealt-interval x g b i r t d o n) hβ ∙ ap (λ t. dealt-interval x g b i r β' t o n) hd
         ∙ ap (λ t. dealt-interval x g b i r β' d' t n) ho
+
+-- three numbers, one by one
+pub three-alike : {a a' b b' c c' : ℕ} → a ≡ a' → b ≡ b' → c ≡ c' → (let t : ℕ × ℕ × ℕ = (a, b, c) in t) ≡ (let t : ℕ × ℕ × ℕ = (a', b', c') in t)
+three-alike {a} {a'} {b} {b'} {c} {c'} ha hb hc =
+    let t : ℕ → ℕ → ℕ → ℕ × ℕ × ℕ = λ x y z. (x, y, z) in
+    ap (λ x. t x b c) ha ∙ ap (λ y. t a' y c) hb ∙ ap (t a' b') hc

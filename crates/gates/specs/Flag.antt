@@ -1,4 +1,5 @@
 -- A flag gate's key, and what both boxes come to.
+use mathlib.Core.Bool.{Bool, true, false, cond}
 use mathlib.Core.List.{List}
 use Prim.Native.Nat.{ℕ, _%_, _^_}
 use lib.Bits.{bitXor}
@@ -10,7 +11,11 @@ use Rattle.key.specs.declared.Row.{Row}
 use Rattle.key.specs.declared.BoxNumber.{BoxNumber}
 use Rattle.key.specs.Rows.{is-one}
 use Rattle.masking.specs.Masking.{size}
-use Rattle.interval.specs.Interval.{plain}
+use Rattle.expander.specs.declared.Seed.{Seed}
+use Rattle.joining.specs.Joining.{dealt-answer}
+use Rattle.interval.specs.Interval.{plain, threshold}
+use Rattle.shares.specs.Keyed.{dealt-flag}
+use Rattle.shares.specs.Local.{xor-of}
 use Rattle.shares.specs.Splits.{part-of-flags}
 use Rattle.shares.specs.Words.{flag-word}
 use Rattle.shares.specs.Plain.{plain-flag}
@@ -36,6 +41,22 @@ dealt-flag-key x b i r pattern w n =
 
 abbrev pub flag-rows : Expansion → Interval → ℕ → ℕ → List ℕ → ℕ → List (Row (Residue (2 ^ 32)))
 flag-rows x i r pattern w n = interval-rows x flags i r (flag-word pattern) (flag-draws w) n
+
+-- a box's share at the held value m, from the key that the dealer d deals; the box's own expansion is x
+abbrev pub flag-share-dealt : Expansion → Expansion → Bool → Interval → ℕ → ℕ → List ℕ → ℕ → ℕ
+flag-share-dealt d x one i r pattern w m =
+    let N : ℕ = size (i .width) in
+    let a : Seed = flag-draws w .root0 in
+    let b : Seed = flag-draws w .root1 in
+    dealt-flag one N m r (i .low) (i .high) pattern (getD w 0 0 % 2 ^ 32) (flag-draws w .payload1) (flag-draws w .extra1) (getD w 7 0)
+      (dealt-answer flags d x (i .width .bits) (threshold N r) (flag-word pattern) a b one (cond one b a))
+
+-- both boxes' shares, and their XOR
+abbrev pub flag-numbers : Expansion → Expansion → Expansion → Interval → ℕ → ℕ → List ℕ → ℕ → ℕ × ℕ × ℕ
+flag-numbers d x y i r pattern w m =
+    let s0 : ℕ = flag-share-dealt d x false i r pattern w m in
+    let s1 : ℕ = flag-share-dealt d y true i r pattern w m in
+    (s0, s1, xor-of s0 s1)
 
 -- the plain meaning at the held value m, XOR the output mask
 abbrev pub flag-held : Interval → ℕ → ℕ → List ℕ → ℕ → ℕ

@@ -1,6 +1,6 @@
 -- A piece's key and share.
 use mathlib.Core.List.{List}
-use mathlib.Core.Bool.{Bool}
+use mathlib.Core.Bool.{Bool, true, false, cond}
 use Prim.Native.Nat.{ℕ, _+_, _%_}
 use lib.ListN.{getD}
 use Rattle.expander.specs.Meaning.{Expansion}
@@ -10,7 +10,11 @@ use Rattle.key.specs.Rows.{is-one}
 use Rattle.masking.specs.Masking.{size}
 use Rattle.shares.specs.Splits.{part-of-number}
 use Rattle.shares.specs.Words.{Quad, quad, quads}
-use Rattle.interval.specs.Interval.{plain}
+use Rattle.expander.specs.declared.Seed.{Seed}
+use Rattle.joining.specs.Joining.{dealt-answer}
+use Rattle.interval.specs.Interval.{plain, threshold}
+use Rattle.shares.specs.Keyed.{dealt-piece}
+use Rattle.shares.specs.Local.{sum-of}
 use Rattle.shares.specs.Piece.{piece-payload}
 use Rattle.shares.specs.Plain.{plain-piece}
 use Rattle.gatekeys.specs.Random.{root-of}
@@ -44,6 +48,23 @@ dealt-piece-key x b i r c w n =
 
 abbrev pub piece-rows : Expansion → Interval → ℕ → List ℕ → List ℕ → ℕ → List (Row Quad)
 piece-rows x i r c w n = interval-rows x quads i r (payload-of r c) (piece-draws w) n
+
+-- a box's share at the held value m, from the key that the dealer d deals; the box's own expansion is x
+abbrev pub piece-share-dealt : Expansion → Expansion → Bool → Interval → ℕ → List ℕ → List ℕ → ℕ → ℕ
+piece-share-dealt d x one i r c w m =
+    let N : ℕ = size (i .width) in
+    let a : Seed = piece-draws w .root0 in
+    let b : Seed = piece-draws w .root1 in
+    dealt-piece one N m r (i .low) (i .high) (getD c 0 0) (getD c 1 0) (getD c 2 0) (getD c 3 0) (getD w 0 0 % N)
+      (piece-draws w .payload1) (piece-draws w .extra1) (getD w 13 0)
+      (dealt-answer quads d x (i .width .bits) (threshold N r) (payload-of r c) a b one (cond one b a))
+
+-- both boxes' shares, and their sum
+abbrev pub piece-numbers : Expansion → Expansion → Expansion → Interval → ℕ → List ℕ → List ℕ → ℕ → ℕ × ℕ × ℕ
+piece-numbers d x y i r c w m =
+    let s0 : ℕ = piece-share-dealt d x false i r c w m in
+    let s1 : ℕ = piece-share-dealt d y true i r c w m in
+    (s0, s1, sum-of (size (i .width)) s0 s1)
 
 -- the plain meaning at the held value m, plus the output mask
 abbrev pub piece-held : Interval → ℕ → List ℕ → List ℕ → ℕ → ℕ

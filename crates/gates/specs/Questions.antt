@@ -7,6 +7,10 @@ use Rattle.refusal.specs.declared.Refusal.{Refusal}
 use Rattle.refusal.specs.declared.Refusal.the-variants.{PlanFields, KeyRange, KeyRows}
 use Rattle.gates.specs.declared.states.GateAnswers.{GateAnswers}
 
+-- both boxes' shares and what they join to
+abbrev pub numbers-of : GateAnswers → ℕ × ℕ × ℕ
+numbers-of a = (a .share0 .0, a .share1 .0, a .held .0)
+
 -- the held value that both boxes come to
 abbrev pub held-of : GateAnswers → ℕ
 held-of a = a .held .0

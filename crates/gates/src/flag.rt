@@ -9,10 +9,10 @@ ghost use Rattle.comparison.specs.Comparison.{answer-mean, RowsAfter};
 ghost use Rattle.group.specs.Flags.{flags};
 ghost use Rattle.shares.specs.Flag.{flag-share};
 ghost use Rattle.gates.specs.Interval.{interval-answer, draws-mean};
-ghost use Rattle.gates.specs.Questions.{row-asks, gate-asks, held-of};
+ghost use Rattle.gates.specs.Questions.{row-asks, gate-asks, numbers-of, held-of};
 ghost use Rattle.gates.specs.Piece.{fresh-mean};
 ghost use Rattle.gatemath.specs.Elements.{flag-mean};
-ghost use Rattle.gates.specs.Flag.{flag-draws, dealt-flag-key, flag-rows, flag-held};
+ghost use Rattle.gates.specs.Flag.{flag-draws, dealt-flag-key, flag-rows, flag-numbers, flag-held};
 use crate::interval_key::IntervalDraws;
 use crate::interval_key::IntervalKey;
 use crate::interval_key::deal_interval;
@@ -138,10 +138,17 @@ pub fn flag_gate<D: Expander, X: Expander, Y: Expander>(
     rows1: &mut Rows<Flags>,
     m: Masked,
 ) -> Result<GateAnswers, Refusal>
-    ensures { λ r. ⌜ (D·Expander .meaning ≡ X·Expander .meaning → D·Expander .meaning ≡ Y·Expander .meaning
+    ensures numbers { λ r. ⌜ answer-mean numbers-of r
+        ≡ answered (gate-asks (interval .width .bits) mask (m .0) (length (now (now (rows0 .entry) .rows))) (length (now (now (rows1 .entry) .rows))))
+            (flag-numbers (D·Expander .meaning) (X·Expander .meaning) (Y·Expander .meaning) interval mask pattern (now (words .entry)) (m .0)) ⌝ }
+    ensures joins { λ r. ⌜ (D·Expander .meaning ≡ X·Expander .meaning → D·Expander .meaning ≡ Y·Expander .meaning
         → answer-mean held-of r
         ≡ answered (gate-asks (interval .width .bits) mask (m .0) (length (now (now (rows0 .entry) .rows))) (length (now (now (rows1 .entry) .rows))))
-        (flag-held interval mask pattern (now (words .entry)) (m .0))) ⌝ }
+            (flag-held interval mask pattern (now (words .entry)) (m .0))) ⌝ }
+    ensures rows0 { λ r. ⌜ RowsAfter flag-mean r (now (now (rows0 .entry) .rows)) (now (now (rows0 .exit) .rows))
+        (flag-rows (D·Expander .meaning) interval mask pattern (now (words .entry)) (interval .width .bits)) ⌝ }
+    ensures rows1 { λ r. ⌜ RowsAfter flag-mean r (now (now (rows1 .entry) .rows)) (now (now (rows1 .exit) .rows))
+        (flag-rows (D·Expander .meaning) interval mask pattern (now (words .entry)) (interval .width .bits)) ⌝ }
 {
     ask_gate(interval.width(), mask, m, rows0.count(), rows1.count())?;
     let key0 = flag_key(

@@ -10,9 +10,9 @@ ghost use Rattle.comparison.specs.Comparison.{answer-mean, RowsAfter};
 ghost use Rattle.shares.specs.Words.{quads};
 ghost use Rattle.shares.specs.Piece.{piece-share-of};
 ghost use Rattle.gates.specs.Interval.{interval-answer, draws-mean};
-ghost use Rattle.gates.specs.Questions.{row-asks, gate-asks, held-of};
+ghost use Rattle.gates.specs.Questions.{row-asks, gate-asks, numbers-of, held-of};
 ghost use Rattle.gatemath.specs.Elements.{quad-mean};
-ghost use Rattle.gates.specs.Piece.{fresh-mean, piece-draws, dealt-piece-key, piece-rows, piece-held};
+ghost use Rattle.gates.specs.Piece.{fresh-mean, piece-draws, dealt-piece-key, piece-rows, piece-numbers, piece-held};
 use crate::interval_key::IntervalDraws;
 use crate::interval_key::IntervalKey;
 use crate::interval_key::deal_interval;
@@ -139,10 +139,17 @@ pub fn piece_gate<D: Expander, X: Expander, Y: Expander>(
     rows1: &mut Rows<Quad>,
     m: Masked,
 ) -> Result<GateAnswers, Refusal>
-    ensures { λ r. ⌜ (D·Expander .meaning ≡ X·Expander .meaning → D·Expander .meaning ≡ Y·Expander .meaning
+    ensures numbers { λ r. ⌜ answer-mean numbers-of r
+        ≡ answered (gate-asks (interval .width .bits) mask (m .0) (length (now (now (rows0 .entry) .rows))) (length (now (now (rows1 .entry) .rows))))
+            (piece-numbers (D·Expander .meaning) (X·Expander .meaning) (Y·Expander .meaning) interval mask (now (coefficients .entry)) (now (words .entry)) (m .0)) ⌝ }
+    ensures joins { λ r. ⌜ (D·Expander .meaning ≡ X·Expander .meaning → D·Expander .meaning ≡ Y·Expander .meaning
         → answer-mean held-of r
         ≡ answered (gate-asks (interval .width .bits) mask (m .0) (length (now (now (rows0 .entry) .rows))) (length (now (now (rows1 .entry) .rows))))
-        (piece-held interval mask (now (coefficients .entry)) (now (words .entry)) (m .0))) ⌝ }
+            (piece-held interval mask (now (coefficients .entry)) (now (words .entry)) (m .0))) ⌝ }
+    ensures rows0 { λ r. ⌜ RowsAfter quad-mean r (now (now (rows0 .entry) .rows)) (now (now (rows0 .exit) .rows))
+        (piece-rows (D·Expander .meaning) interval mask (now (coefficients .entry)) (now (words .entry)) (interval .width .bits)) ⌝ }
+    ensures rows1 { λ r. ⌜ RowsAfter quad-mean r (now (now (rows1 .entry) .rows)) (now (now (rows1 .exit) .rows))
+        (piece-rows (D·Expander .meaning) interval mask (now (coefficients .entry)) (now (words .entry)) (interval .width .bits)) ⌝ }
 {
     ask_gate(interval.width(), mask, m, rows0.count(), rows1.count())?;
     let key0 = piece_key(

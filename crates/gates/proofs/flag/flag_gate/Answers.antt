@@ -1,4 +1,5 @@
-use mathlib.Core.Path.{_≡_, sym, ap, _∙_}
+use mathlib.Core.Path.{_≡_, refl, sym, ap, _∙_}
+use mathlib.Core.Bool.{true, false}
 use Prim.Native.Nat.{ℕ}
 use borrow.Author.Needs.{needs}
 use denote.Ref.{now}
@@ -6,29 +7,40 @@ use lib.ListN.{length}
 use Rattle.std.specs.declared.result.Result.the-variants.{Ok, Err}
 use Rattle.std.proofs.shelf.Results.{err-from-errBy}
 use Rattle.key.specs.declared.BoxNumber.the-variants.{Zero, One}
+use Rattle.masking.specs.Masking.{size}
+use Rattle.shares.specs.Local.{xor-of}
 use Rattle.comparison.specs.Comparison.{answer-mean}
-use Rattle.gates.specs.Questions.{held-of}
-use Rattle.gates.specs.Flag.{dealt-flag-key, flag-rows, flag-held}
+use Rattle.gates.specs.Questions.{numbers-of, held-of}
+use Rattle.gates.specs.Flag.{dealt-flag-key, flag-rows, flag-share-dealt, flag-numbers, flag-held}
 use Rattle.gates.proofs.Asked.{gate-refused, gate-accepted, gate-allowed}
-use Rattle.gates.proofs.FlagShares.{flags-join}
+use Rattle.gates.proofs.Draws.{three-alike}
+use Rattle.gates.proofs.FlagShares.{flag-share-is, flags-join}
 use Rattle.gates.proofs.flag.flag_gate.Needs as need
 
 pub returns-in-Break-ask-gate : need.returns-in-Break-ask-gate
-returns-in-Break-ask-gate g c ex ey =
+returns-in-Break-ask-gate g c =
     let p = err-from-errBy (c .from-residual .result) (c .from-residual .ensures .1) in
-    ap (answer-mean held-of) (p .1)
-    ∙ sym (gate-refused (c .args .mask) (c .args .m .0) (ap (λ w. w .bits) (c .width .ensures)) (c .count .ensures) (c .count-2 .ensures) (p .0)
-    (flag-held (c .args .interval) (c .args .mask) (c .args .pattern) (c .args .words .now) (c .args .m .0))
-    (ap Err (p .2) ∙ c .in-Break-ask-gate .ensures tt))
+    let asked = ap Err (p .2) ∙ c .in-Break-ask-gate .ensures tt in
+    let r : ℕ = c .args .mask in
+    let m : ℕ = c .args .m .0 in
+    record {
+      numbers = ap (answer-mean numbers-of) (p .1)
+        ∙ sym (gate-refused r m (ap (λ w. w .bits) (c .width .ensures)) (c .count .ensures) (c .count-2 .ensures) (p .0) _ asked);
+      joins = λ ex ey. ap (answer-mean held-of) (p .1)
+        ∙ sym (gate-refused r m (ap (λ w. w .bits) (c .width .ensures)) (c .count .ensures) (c .count-2 .ensures) (p .0) _ asked);
+      rows0 = rw (p .1) refl;
+      rows1 = rw (p .1) refl;
+    }
 
 pub returns : need.returns
-returns g c ex ey =
+returns g c =
     let d = g .D·Expander .meaning in
     let x = g .X·Expander .meaning in
     let y = g .Y·Expander .meaning in
     let i = c .args .interval in
     let r : ℕ = c .args .mask in
     let m : ℕ = c .args .m .0 in
+    let N : ℕ = size (i .width) in
     let pattern : ℕ = c .args .pattern in
     let ws = c .args .words .now in
     let bits = ap (λ w. w .bits) (c .width .ensures) in
@@ -41,13 +53,21 @@ returns g c ex ey =
     let key1 = c .flag-key-key1 in
     let half0 = c .answer-flag-half0 in
     let half1 = c .answer-flag-half1 in
-    ap Ok (c .exchange .ensures .held
-    ∙ flags-join d x y (g .D·Expander·met .wide) ex ey i r m pattern ws (fine .mask) (fine .held) (search needs)
-    (key0 .result .key) (key1 .result .key) (now (key0 .last .rows .rows)) (now (key1 .last .rows .rows))
-    (half0 .result .own .0) (half1 .result .own .0)
-    (key0 .ensures .key ∙ ap (dealt-flag-key d Zero i r pattern ws) (fine .rows0))
-    (key1 .ensures .key ∙ ap (dealt-flag-key d One i r pattern ws) (fine .rows1))
-    (key0 .ensures .rows ∙ ap (flag-rows d i r pattern ws) (fine .rows0))
-    (key1 .ensures .rows ∙ ap (flag-rows d i r pattern ws) (fine .rows1))
-    (half0 .ensures) (half1 .ensures))
-    ∙ sym (gate-accepted r m bits (c .count .ensures) (c .count-2 .ensures) u (flag-held i r pattern ws m) asked)
+    let rows0 = key0 .ensures .rows ∙ ap (flag-rows d i r pattern ws) (fine .rows0) in
+    let rows1 = key1 .ensures .rows ∙ ap (flag-rows d i r pattern ws) (fine .rows1) in
+    let S0 : ℕ = flag-share-dealt d x false i r pattern ws m in
+    let S1 : ℕ = flag-share-dealt d y true i r pattern ws m in
+    let s0 : half0 .result .own .0 ≡ S0 = flag-share-is d x i r m pattern ws Zero (key0 .result .key) (now (key0 .last .rows .rows))
+        (half0 .result .own .0) (key0 .ensures .key ∙ ap (dealt-flag-key d Zero i r pattern ws) (fine .rows0)) rows0 (half0 .ensures) in
+    let s1 : half1 .result .own .0 ≡ S1 = flag-share-is d y i r m pattern ws One (key1 .result .key) (now (key1 .last .rows .rows))
+        (half1 .result .own .0) (key1 .ensures .key ∙ ap (dealt-flag-key d One i r pattern ws) (fine .rows1)) rows1 (half1 .ensures) in
+    let held = c .exchange .ensures .held in
+    let both = held ∙ ap (λ t. xor-of t (half1 .result .own .0)) s0 ∙ ap (xor-of S0) s1 in
+    record {
+      numbers = ap Ok (three-alike (ap (λ t. t .0) (c .exchange .ensures .share0) ∙ s0) (ap (λ t. t .0) (c .exchange .ensures .share1) ∙ s1) both)
+        ∙ sym (gate-accepted r m bits (c .count .ensures) (c .count-2 .ensures) u (flag-numbers d x y i r pattern ws m) asked);
+      joins = λ ex ey. ap Ok (both ∙ flags-join d x y (g .D·Expander·met .wide) ex ey i r m pattern ws (fine .mask) (fine .held) (search needs))
+        ∙ sym (gate-accepted r m bits (c .count .ensures) (c .count-2 .ensures) u (flag-held i r pattern ws m) asked);
+      rows0 = rows0;
+      rows1 = rows1;
+    }
