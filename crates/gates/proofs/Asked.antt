@@ -59,6 +59,10 @@ gate-allowed n r m k j h =
     }
 
 -- the questions of a product
+pub product-refused : {Y : Type 0} (n r s m k : ℕ) (e : Refusal) (y : Y) → Err e ≡ answered (product-asks n r s m k) (tt {0})
+    → answered (product-asks n r s m k) y ≡ Err e
+product-refused n r s m k e y h = refused-alike (product-asks n r s m k) (tt {0}) y e (sym h)
+
 pub product-accepted : {Y : Type 0} (n r s m k : ℕ) (u : Unit {0}) (y : Y) → Ok u ≡ answered (product-asks n r s m k) (tt {0})
     → answered (product-asks n r s m k) y ≡ Ok y
 product-accepted n r s m k u y h = answered-alike (product-asks n r s m k) (tt {0}) u y (sym h)

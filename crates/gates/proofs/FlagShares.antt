@@ -64,6 +64,6 @@ flags-join d x y wide ex ey i r m pattern ws hr hm hp =
     let dr = flag-draws ws in
     let α : ℕ = threshold N r in
     flag-is-plain N m r (i .low) (i .high) pattern (getD ws 0 0 % 2 ^ 32) (getD ws 7 0) hm hr (i .ordered) (i .fits) hp
-      (dr .payload1) (dr .extra1)
-      (dealt-answer flags d x n α β (dr .root0) (dr .root1) false (dr .root0)) (dealt-answer flags d y n α β (dr .root0) (dr .root1) true (dr .root1))
-      (dealt-keys-join flags d x y n α β (dr .root0) (dr .root1) wide ex ey (mod-lt (r + (N - 1)) (pow-pos n)))
+    (dr .payload1) (dr .extra1)
+    (dealt-answer flags d x n α β (dr .root0) (dr .root1) false (dr .root0)) (dealt-answer flags d y n α β (dr .root0) (dr .root1) true (dr .root1))
+    (dealt-keys-join flags d x y n α β (dr .root0) (dr .root1) wide ex ey (mod-lt (r + (N - 1)) (pow-pos n)))

@@ -64,6 +64,6 @@ pieces-join d x y wide ex ey i r m cs ws hr hm =
     let dr = piece-draws ws in
     let α : ℕ = threshold N r in
     piece-is-plain n m r (i .low) (i .high) (getD cs 0 0) (getD cs 1 0) (getD cs 2 0) (getD cs 3 0) (getD ws 0 0 % N) (getD ws 13 0)
-      (i .width .most) hm hr (i .ordered) (i .fits) (dr .payload1) (dr .extra1)
-      (dealt-answer quads d x n α β (dr .root0) (dr .root1) false (dr .root0)) (dealt-answer quads d y n α β (dr .root0) (dr .root1) true (dr .root1))
-      (dealt-keys-join quads d x y n α β (dr .root0) (dr .root1) wide ex ey (mod-lt (r + (N - 1)) (pow-pos n)))
+    (i .width .most) hm hr (i .ordered) (i .fits) (dr .payload1) (dr .extra1)
+    (dealt-answer quads d x n α β (dr .root0) (dr .root1) false (dr .root0)) (dealt-answer quads d y n α β (dr .root0) (dr .root1) true (dr .root1))
+    (dealt-keys-join quads d x y n α β (dr .root0) (dr .root1) wide ex ey (mod-lt (r + (N - 1)) (pow-pos n)))

@@ -28,6 +28,7 @@ use Rattle.gates.specs.declared.shift.ShiftKey.{ShiftKey}
 use Rattle.gatemath.specs.Elements.{step-of, word-mean}
 use Rattle.gates.specs.Shift.{shift-key-mean, low-root0, low-root1, high-root0, high-root1, low-rows-of, high-rows-of, dealt-shift-key}
 use Rattle.gates.specs.Shift.{low-at, high-at, shift-share-at, signed-share-at, shift-held, signed-shift-held}
+use Rattle.gates.specs.Shift.{low-key-dealt, high-key-dealt, shift-share-dealt, signed-share-dealt}
 use Rattle.gates.proofs.Meeting.{dealt-keys-join}
 
 module _ (d : Expansion) (s : Shift) (r : ℕ) (ws : List ℕ) where
@@ -36,14 +37,6 @@ module _ (d : Expansion) (s : Shift) (r : ℕ) (ws : List ℕ) where
 
   abbrev S : ℕ
   S = step-of s
-
-  -- a box's low key as it was dealt, and its high key
-  abbrev low-key : Expansion → Bool → ℕ → Word
-  low-key x one = dealt-answer words d x (s .by) (r % S) (word low-payload) (low-root0 ws) (low-root1 ws) one (cond one (low-root1 ws) (low-root0 ws))
-
-  abbrev high-key : Expansion → Bool → ℕ → Word
-  high-key x one =
-      dealt-answer words d x (s .width .bits) r (word (high-payload N S)) (high-root0 ws) (high-root1 ws) one (cond one (high-root1 ws) (high-root0 ws))
 
   abbrev key : BoxNumber → ShiftKey Word
   key b = dealt-shift-key d b s r ws (s .by) (s .width .bits)
@@ -54,7 +47,8 @@ module _ (d : Expansion) (s : Shift) (r : ℕ) (ws : List ℕ) where
       → shift-key-mean word-mean k ≡ key b
       → map (row-mean word-mean) low ≡ low-rows-of d s r ws (s .by)
       → map (row-mean word-mean) high ≡ high-rows-of d s r ws (s .width .bits)
-      → F (shift-key-mean word-mean k) (low-at x word-mean k low) (high-at x word-mean k high) ≡ F (key b) (low-key x (is-one b)) (high-key x (is-one b))
+      → F (shift-key-mean word-mean k) (low-at x word-mean k low) (high-at x word-mean k high) ≡ F (key b) (low-key-dealt d x (is-one b) s r ws)
+      (high-key-dealt d x (is-one b) s r ws)
   from-dealt x b F k low high hk hl hh =
       let K : ShiftKey Word = shift-key-mean word-mean k in
       let lo : ShiftKey Word → List (Row Word) → ℕ → Word = λ j rs p.
@@ -68,41 +62,42 @@ module _ (d : Expansion) (s : Shift) (r : ℕ) (ws : List ℕ) where
       ∙ ap (λ rs. F K (lo K (low-rows-of d s r ws (s .by))) (hi K rs)) hh
       ∙ ap (λ j. F j (lo j (low-rows-of d s r ws (s .by))) (hi j (high-rows-of d s r ws (s .width .bits)))) hk
 
-  module _ (x y : Expansion) (wide : AllWide d) (ex : d ≡ x) (ey : d ≡ y) (hr : r < 2 ^ s .width .bits) where
-    -- both boxes' keys join as the comparison says
-    keys-join : ShiftKeysJoin N S r (low-key x false) (low-key y true) (high-key x false) (high-key y true)
-    keys-join = (
-      dealt-keys-join words d x y (s .by) (r % S) (word low-payload) (low-root0 ws) (low-root1 ws) wide ex ey (mod-lt r (pow-pos (s .by))),
-      dealt-keys-join words d x y (s .width .bits) r (word (high-payload N S)) (high-root0 ws) (high-root1 ws) wide ex ey hr,
-    )
+  module _ (m : ℕ) where
+    abbrev share-at : ShiftKey Word → (ℕ → Word) → (ℕ → Word) → ℕ
+    share-at k lo hi =
+        shift-share (is-one (k .number)) (size (k .shift .width)) (step-of (k .shift)) m (lo (low-point (step-of (k .shift)) m) .0) (hi m .0) (k .rest)
 
-    module _ (m : ℕ) (hm : m < 2 ^ s .width .bits) (k0 k1 : ShiftKey code.Word) (low0 high0 low1 high1 : List (Row code.Word))
-        (hk0 : shift-key-mean word-mean k0 ≡ key Zero) (hk1 : shift-key-mean word-mean k1 ≡ key One)
-        (hl0 : map (row-mean word-mean) low0 ≡ low-rows-of d s r ws (s .by))
-        (hh0 : map (row-mean word-mean) high0 ≡ high-rows-of d s r ws (s .width .bits))
-        (hl1 : map (row-mean word-mean) low1 ≡ low-rows-of d s r ws (s .by))
-        (hh1 : map (row-mean word-mean) high1 ≡ high-rows-of d s r ws (s .width .bits)) (s0 s1 : ℕ) where
-      abbrev plain-share : ShiftKey Word → (ℕ → Word) → (ℕ → Word) → ℕ
-      plain-share k lo hi =
-          shift-share (is-one (k .number)) (size (k .shift .width)) (step-of (k .shift)) m (lo (low-point (step-of (k .shift)) m) .0) (hi m .0) (k .rest)
+    abbrev signed-at : ShiftKey Word → (ℕ → Word) → (ℕ → Word) → ℕ
+    signed-at k lo hi =
+        let h : ℕ = signed-held (size (k .shift .width)) m in
+        signed-share (is-one (k .number)) (size (k .shift .width)) (step-of (k .shift)) m (lo (low-point (step-of (k .shift)) h) .0) (hi h .0) (k .rest)
 
-      abbrev sign-share : ShiftKey Word → (ℕ → Word) → (ℕ → Word) → ℕ
-      sign-share k lo hi =
-          let h : ℕ = signed-held (size (k .shift .width)) m in
-          signed-share (is-one (k .number)) (size (k .shift .width)) (step-of (k .shift)) m (lo (low-point (step-of (k .shift)) h) .0) (hi h .0) (k .rest)
+    -- a box's share from its dealt key is the defined one
+    module _ (x : Expansion) (b : BoxNumber) (k : ShiftKey code.Word) (low high : List (Row code.Word)) (t : ℕ)
+        (hk : shift-key-mean word-mean k ≡ key b)
+        (hl : map (row-mean word-mean) low ≡ low-rows-of d s r ws (s .by))
+        (hh : map (row-mean word-mean) high ≡ high-rows-of d s r ws (s .width .bits)) where
+      pub shift-share-is : t ≡ shift-share-at x word-mean k low high m → t ≡ shift-share-dealt d x (is-one b) s r ws m
+      shift-share-is e = e ∙ from-dealt x b share-at k low high hk hl hh
 
-      pub shifts-join : s0 ≡ shift-share-at x word-mean k0 low0 high0 m → s1 ≡ shift-share-at y word-mean k1 low1 high1 m
-          → sum-of N s0 s1 ≡ shift-held s r ws m
-      shifts-join e0 e1 =
-          ap (λ t. sum-of N t s1) (e0 ∙ from-dealt x Zero plain-share k0 low0 high0 hk0 hl0 hh0)
-          ∙ ap (sum-of N (plain-share (key Zero) (low-key x false) (high-key x false))) (e1 ∙ from-dealt y One plain-share k1 low1 high1 hk1 hl1 hh1)
-          ∙ shift-is-plain (s .width .bits) (s .by) m r (getD ws 0 0 % N) (getD ws 9 0) (omega (arith, s .fits)) (s .width .most) hm hr
-          (low-key x false) (low-key y true) (high-key x false) (high-key y true) keys-join
+      pub signed-share-is : t ≡ signed-share-at x word-mean k low high m → t ≡ signed-share-dealt d x (is-one b) s r ws m
+      signed-share-is e = e ∙ from-dealt x b signed-at k low high hk hl hh
 
-      pub signed-shifts-join : s0 ≡ signed-share-at x word-mean k0 low0 high0 m → s1 ≡ signed-share-at y word-mean k1 low1 high1 m
-          → sum-of N s0 s1 ≡ signed-shift-held s r ws m
-      signed-shifts-join e0 e1 =
-          ap (λ t. sum-of N t s1) (e0 ∙ from-dealt x Zero sign-share k0 low0 high0 hk0 hl0 hh0)
-          ∙ ap (sum-of N (sign-share (key Zero) (low-key x false) (high-key x false))) (e1 ∙ from-dealt y One sign-share k1 low1 high1 hk1 hl1 hh1)
-          ∙ signed-shift-is-plain (s .width .bits) (s .by) m r (getD ws 0 0 % N) (getD ws 9 0) (s .fits) (s .width .most) hm hr
-          (low-key x false) (low-key y true) (high-key x false) (high-key y true) keys-join
+    -- the defined shares join to the plain meaning plus the output mask
+    module _ (x y : Expansion) (wide : AllWide d) (ex : d ≡ x) (ey : d ≡ y) (hr : r < 2 ^ s .width .bits) (hm : m < 2 ^ s .width .bits) where
+      keys-join : ShiftKeysJoin N S r (low-key-dealt d x false s r ws) (low-key-dealt d y true s r ws) (high-key-dealt d x false s r ws)
+          (high-key-dealt d y true s r ws)
+      keys-join = (
+        dealt-keys-join words d x y (s .by) (r % S) (word low-payload) (low-root0 ws) (low-root1 ws) wide ex ey (mod-lt r (pow-pos (s .by))),
+        dealt-keys-join words d x y (s .width .bits) r (word (high-payload N S)) (high-root0 ws) (high-root1 ws) wide ex ey hr,
+      )
+
+      pub shifts-join : sum-of N (shift-share-dealt d x false s r ws m) (shift-share-dealt d y true s r ws m) ≡ shift-held s r ws m
+      shifts-join =
+          shift-is-plain (s .width .bits) (s .by) m r (getD ws 0 0 % N) (getD ws 9 0) (omega (arith, s .fits)) (s .width .most) hm hr
+          (low-key-dealt d x false s r ws) (low-key-dealt d y true s r ws) (high-key-dealt d x false s r ws) (high-key-dealt d y true s r ws) keys-join
+
+      pub signed-shifts-join : sum-of N (signed-share-dealt d x false s r ws m) (signed-share-dealt d y true s r ws m) ≡ signed-shift-held s r ws m
+      signed-shifts-join =
+          signed-shift-is-plain (s .width .bits) (s .by) m r (getD ws 0 0 % N) (getD ws 9 0) (s .fits) (s .width .most) hm hr
+          (low-key-dealt d x false s r ws) (low-key-dealt d y true s r ws) (high-key-dealt d x false s r ws) (high-key-dealt d y true s r ws) keys-join

@@ -49,7 +49,7 @@ flag-share-dealt d x one i r pattern w m =
     let a : Seed = flag-draws w .root0 in
     let b : Seed = flag-draws w .root1 in
     dealt-flag one N m r (i .low) (i .high) pattern (getD w 0 0 % 2 ^ 32) (flag-draws w .payload1) (flag-draws w .extra1) (getD w 7 0)
-      (dealt-answer flags d x (i .width .bits) (threshold N r) (flag-word pattern) a b one (cond one b a))
+    (dealt-answer flags d x (i .width .bits) (threshold N r) (flag-word pattern) a b one (cond one b a))
 
 -- both boxes' shares, and their XOR
 abbrev pub flag-numbers : Expansion → Expansion → Expansion → Interval → ℕ → ℕ → List ℕ → ℕ → ℕ × ℕ × ℕ

@@ -56,8 +56,8 @@ piece-share-dealt d x one i r c w m =
     let a : Seed = piece-draws w .root0 in
     let b : Seed = piece-draws w .root1 in
     dealt-piece one N m r (i .low) (i .high) (getD c 0 0) (getD c 1 0) (getD c 2 0) (getD c 3 0) (getD w 0 0 % N)
-      (piece-draws w .payload1) (piece-draws w .extra1) (getD w 13 0)
-      (dealt-answer quads d x (i .width .bits) (threshold N r) (payload-of r c) a b one (cond one b a))
+    (piece-draws w .payload1) (piece-draws w .extra1) (getD w 13 0)
+    (dealt-answer quads d x (i .width .bits) (threshold N r) (payload-of r c) a b one (cond one b a))
 
 -- both boxes' shares, and their sum
 abbrev pub piece-numbers : Expansion → Expansion → Expansion → Interval → ℕ → List ℕ → List ℕ → ℕ → ℕ × ℕ × ℕ

@@ -1,6 +1,6 @@
 -- A shift's key, its answers, and what both boxes come to.
 use mathlib.Core.List.{List}
-use mathlib.Core.Bool.{cond}
+use mathlib.Core.Bool.{Bool, true, false, cond}
 use Prim.Native.Nat.{ℕ, _+_, _%_}
 use lib.ListN.{getD}
 use Rattle.expander.specs.Meaning.{Expansion}
@@ -10,8 +10,11 @@ use Rattle.key.specs.declared.BoxNumber.{BoxNumber}
 use Rattle.key.specs.Rows.{is-one}
 use Rattle.evaluation.specs.Evaluation.{evaluated}
 use Rattle.dealing.specs.Dealing.{start, dealt-rows, dealt-last}
+use Rattle.joining.specs.Joining.{dealt-answer}
 use Rattle.masking.specs.Masking.{size}
 use Rattle.interval.specs.Interval.{plain}
+use Rattle.shares.specs.Keyed.{dealt-shift, dealt-signed-shift}
+use Rattle.shares.specs.Local.{sum-of}
 use Rattle.shares.specs.Splits.{part-of-number}
 use Rattle.shares.specs.Words as group
 use Rattle.shares.specs.Shifts.{low-threshold, low-payload, high-threshold, high-payload, low-point, shift-rest, shift-share, signed-held, signed-share}
@@ -95,6 +98,41 @@ module _ {G : Type 0} (x : Expansion) where
       let S : ℕ = step-of (k .shift) in
       let h : ℕ = signed-held N m in
       signed-share (is-one (k .number)) N S m (low-at mean k low (low-point S h) .0) (high-at mean k high h .0) (k .rest)
+
+module _ (d x : Expansion) (one : Bool) (s : Shift) (r : ℕ) (w : List ℕ) where
+  -- a box's low key as the dealer d deals it, and its high key; the box's own expansion is x
+  abbrev pub low-key-dealt : ℕ → group.Word
+  low-key-dealt =
+      dealt-answer group.words d x (s .by) (low-threshold (step-of s) r) (group.word low-payload) (low-root0 w) (low-root1 w) one
+      (cond one (low-root1 w) (low-root0 w))
+
+  abbrev pub high-key-dealt : ℕ → group.Word
+  high-key-dealt =
+      dealt-answer group.words d x (s .width .bits) (high-threshold r) (group.word (high-payload (size (s .width)) (step-of s))) (high-root0 w)
+      (high-root1 w) one
+      (cond one (high-root1 w) (high-root0 w))
+
+  -- a box's share at the held value m, and that of a signed shift
+  abbrev pub shift-share-dealt : ℕ → ℕ
+  shift-share-dealt m = let N : ℕ = size (s .width) in dealt-shift one N (step-of s) m r (getD w 0 0 % N) (getD w 9 0) low-key-dealt high-key-dealt
+
+  abbrev pub signed-share-dealt : ℕ → ℕ
+  signed-share-dealt m =
+      let N : ℕ = size (s .width) in dealt-signed-shift one N (step-of s) m r (getD w 0 0 % N) (getD w 9 0) low-key-dealt high-key-dealt
+
+module _ (d x y : Expansion) (s : Shift) (r : ℕ) (w : List ℕ) (m : ℕ) where
+  -- both boxes' shares, and their sum
+  abbrev pub shift-numbers : ℕ × ℕ × ℕ
+  shift-numbers =
+      let s0 : ℕ = shift-share-dealt d x false s r w m in
+      let s1 : ℕ = shift-share-dealt d y true s r w m in
+      (s0, s1, sum-of (size (s .width)) s0 s1)
+
+  abbrev pub signed-shift-numbers : ℕ × ℕ × ℕ
+  signed-shift-numbers =
+      let s0 : ℕ = signed-share-dealt d x false s r w m in
+      let s1 : ℕ = signed-share-dealt d y true s r w m in
+      (s0, s1, sum-of (size (s .width)) s0 s1)
 
 -- the plain meaning at the held value m, plus the output mask
 abbrev pub shift-held : Shift → ℕ → List ℕ → ℕ → ℕ

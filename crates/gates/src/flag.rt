@@ -140,11 +140,11 @@ pub fn flag_gate<D: Expander, X: Expander, Y: Expander>(
 ) -> Result<GateAnswers, Refusal>
     ensures numbers { λ r. ⌜ answer-mean numbers-of r
         ≡ answered (gate-asks (interval .width .bits) mask (m .0) (length (now (now (rows0 .entry) .rows))) (length (now (now (rows1 .entry) .rows))))
-            (flag-numbers (D·Expander .meaning) (X·Expander .meaning) (Y·Expander .meaning) interval mask pattern (now (words .entry)) (m .0)) ⌝ }
+        (flag-numbers (D·Expander .meaning) (X·Expander .meaning) (Y·Expander .meaning) interval mask pattern (now (words .entry)) (m .0)) ⌝ }
     ensures joins { λ r. ⌜ (D·Expander .meaning ≡ X·Expander .meaning → D·Expander .meaning ≡ Y·Expander .meaning
         → answer-mean held-of r
         ≡ answered (gate-asks (interval .width .bits) mask (m .0) (length (now (now (rows0 .entry) .rows))) (length (now (now (rows1 .entry) .rows))))
-            (flag-held interval mask pattern (now (words .entry)) (m .0))) ⌝ }
+        (flag-held interval mask pattern (now (words .entry)) (m .0))) ⌝ }
     ensures rows0 { λ r. ⌜ RowsAfter flag-mean r (now (now (rows0 .entry) .rows)) (now (now (rows0 .exit) .rows))
         (flag-rows (D·Expander .meaning) interval mask pattern (now (words .entry)) (interval .width .bits)) ⌝ }
     ensures rows1 { λ r. ⌜ RowsAfter flag-mean r (now (now (rows1 .entry) .rows)) (now (now (rows1 .exit) .rows))

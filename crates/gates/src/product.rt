@@ -5,8 +5,8 @@ ghost use Rattle.key.specs.Rows.{is-one};
 ghost use Rattle.masking.specs.Masking.{size};
 ghost use Rattle.comparison.specs.Comparison.{answer-mean};
 ghost use Rattle.shares.specs.Product.{product-share};
-ghost use Rattle.gates.specs.Questions.{held-of, product-asks};
-ghost use Rattle.gates.specs.Product.{dealt-product, product-held};
+ghost use Rattle.gates.specs.Questions.{numbers-of, held-of, product-asks};
+ghost use Rattle.gates.specs.Product.{dealt-product, product-numbers, product-held};
 use crate::questions::ask_product;
 use crate::states::Fresh;
 use crate::states::GateAnswers;
@@ -90,7 +90,9 @@ pub fn product_gate(
     m: Masked,
     k: Masked,
 ) -> Result<GateAnswers, Refusal>
-    ensures { λ r. ⌜ answer-mean held-of r
+    ensures numbers { λ r. ⌜ answer-mean numbers-of r
+        ≡ answered (product-asks (width .bits) «mask_a» «mask_b» (m .0) (k .0)) (product-numbers width «mask_a» «mask_b» (now (words .entry)) (m .0) (k .0)) ⌝ }
+    ensures joins { λ r. ⌜ answer-mean held-of r
         ≡ answered (product-asks (width .bits) «mask_a» «mask_b» (m .0) (k .0)) (product-held width «mask_a» «mask_b» (now (words .entry)) (m .0) (k .0)) ⌝ }
 {
     ask_product(width, mask_a, mask_b, m, k)?;

@@ -6,7 +6,8 @@ ghost use denote.Ref.{name};
 ghost use Rattle.refusal.specs.Questions.{answered};
 ghost use Rattle.key.specs.Rows.{row-mean};
 ghost use Rattle.comparison.specs.Comparison.{answer-mean, RowsAfter};
-ghost use Rattle.gates.specs.Questions.{held-of};
+ghost use Rattle.gates.specs.Questions.{numbers-of, held-of};
+ghost use Rattle.gates.specs.Shift.{shift-numbers, signed-shift-numbers};
 ghost use Rattle.gates.specs.ShiftQuestions.{shift-row-asks, shift-asks};
 ghost use Rattle.gatemath.specs.Elements.{word-mean};
 ghost use Rattle.gates.specs.Shift.{fresh-shift-mean, dealt-shift-key, low-rows-of, high-rows-of, low-at};
@@ -258,11 +259,23 @@ pub fn shift_gate<D: Expander, X: Expander, Y: Expander>(
     high1: &mut Rows<Word>,
     m: Masked,
 ) -> Result<GateAnswers, Refusal>
-    ensures { λ r. ⌜ (D·Expander .meaning ≡ X·Expander .meaning → D·Expander .meaning ≡ Y·Expander .meaning
+    ensures numbers { λ r. ⌜ answer-mean numbers-of r
+        ≡ answered (shift-asks shift mask (m .0) (length (now (now (low0 .entry) .rows))) (length (now (now (high0 .entry) .rows)))
+        (length (now (now (low1 .entry) .rows))) (length (now (now (high1 .entry) .rows))))
+        (shift-numbers (D·Expander .meaning) (X·Expander .meaning) (Y·Expander .meaning) shift mask (now (words .entry)) (m .0)) ⌝ }
+    ensures joins { λ r. ⌜ (D·Expander .meaning ≡ X·Expander .meaning → D·Expander .meaning ≡ Y·Expander .meaning
         → answer-mean held-of r
         ≡ answered (shift-asks shift mask (m .0) (length (now (now (low0 .entry) .rows))) (length (now (now (high0 .entry) .rows)))
         (length (now (now (low1 .entry) .rows))) (length (now (now (high1 .entry) .rows))))
         (shift-held shift mask (now (words .entry)) (m .0))) ⌝ }
+    ensures low0 { λ r. ⌜ RowsAfter word-mean r (now (now (low0 .entry) .rows)) (now (now (low0 .exit) .rows))
+        (low-rows-of (D·Expander .meaning) shift mask (now (words .entry)) (shift .by)) ⌝ }
+    ensures high0 { λ r. ⌜ RowsAfter word-mean r (now (now (high0 .entry) .rows)) (now (now (high0 .exit) .rows))
+        (high-rows-of (D·Expander .meaning) shift mask (now (words .entry)) (shift .width .bits)) ⌝ }
+    ensures low1 { λ r. ⌜ RowsAfter word-mean r (now (now (low1 .entry) .rows)) (now (now (low1 .exit) .rows))
+        (low-rows-of (D·Expander .meaning) shift mask (now (words .entry)) (shift .by)) ⌝ }
+    ensures high1 { λ r. ⌜ RowsAfter word-mean r (now (now (high1 .entry) .rows)) (now (now (high1 .exit) .rows))
+        (high-rows-of (D·Expander .meaning) shift mask (now (words .entry)) (shift .width .bits)) ⌝ }
 {
     ask_shift(
         shift,
@@ -294,11 +307,23 @@ pub fn signed_shift_gate<D: Expander, X: Expander, Y: Expander>(
     high1: &mut Rows<Word>,
     m: Masked,
 ) -> Result<GateAnswers, Refusal>
-    ensures { λ r. ⌜ (D·Expander .meaning ≡ X·Expander .meaning → D·Expander .meaning ≡ Y·Expander .meaning
+    ensures numbers { λ r. ⌜ answer-mean numbers-of r
+        ≡ answered (shift-asks shift mask (m .0) (length (now (now (low0 .entry) .rows))) (length (now (now (high0 .entry) .rows)))
+        (length (now (now (low1 .entry) .rows))) (length (now (now (high1 .entry) .rows))))
+        (signed-shift-numbers (D·Expander .meaning) (X·Expander .meaning) (Y·Expander .meaning) shift mask (now (words .entry)) (m .0)) ⌝ }
+    ensures joins { λ r. ⌜ (D·Expander .meaning ≡ X·Expander .meaning → D·Expander .meaning ≡ Y·Expander .meaning
         → answer-mean held-of r
         ≡ answered (shift-asks shift mask (m .0) (length (now (now (low0 .entry) .rows))) (length (now (now (high0 .entry) .rows)))
         (length (now (now (low1 .entry) .rows))) (length (now (now (high1 .entry) .rows))))
         (signed-shift-held shift mask (now (words .entry)) (m .0))) ⌝ }
+    ensures low0 { λ r. ⌜ RowsAfter word-mean r (now (now (low0 .entry) .rows)) (now (now (low0 .exit) .rows))
+        (low-rows-of (D·Expander .meaning) shift mask (now (words .entry)) (shift .by)) ⌝ }
+    ensures high0 { λ r. ⌜ RowsAfter word-mean r (now (now (high0 .entry) .rows)) (now (now (high0 .exit) .rows))
+        (high-rows-of (D·Expander .meaning) shift mask (now (words .entry)) (shift .width .bits)) ⌝ }
+    ensures low1 { λ r. ⌜ RowsAfter word-mean r (now (now (low1 .entry) .rows)) (now (now (low1 .exit) .rows))
+        (low-rows-of (D·Expander .meaning) shift mask (now (words .entry)) (shift .by)) ⌝ }
+    ensures high1 { λ r. ⌜ RowsAfter word-mean r (now (now (high1 .entry) .rows)) (now (now (high1 .exit) .rows))
+        (high-rows-of (D·Expander .meaning) shift mask (now (words .entry)) (shift .width .bits)) ⌝ }
 {
     ask_shift(
         shift,

@@ -25,9 +25,9 @@ returns-in-Break-ask-gate g c =
     let m : ℕ = c .args .m .0 in
     record {
       numbers = ap (answer-mean numbers-of) (p .1)
-        ∙ sym (gate-refused r m (ap (λ w. w .bits) (c .width .ensures)) (c .count .ensures) (c .count-2 .ensures) (p .0) _ asked);
+          ∙ sym (gate-refused r m (ap (λ w. w .bits) (c .width .ensures)) (c .count .ensures) (c .count-2 .ensures) (p .0) _ asked);
       joins = λ ex ey. ap (answer-mean held-of) (p .1)
-        ∙ sym (gate-refused r m (ap (λ w. w .bits) (c .width .ensures)) (c .count .ensures) (c .count-2 .ensures) (p .0) _ asked);
+          ∙ sym (gate-refused r m (ap (λ w. w .bits) (c .width .ensures)) (c .count .ensures) (c .count-2 .ensures) (p .0) _ asked);
       rows0 = rw (p .1) refl;
       rows1 = rw (p .1) refl;
     }
@@ -58,16 +58,16 @@ returns g c =
     let S0 : ℕ = flag-share-dealt d x false i r pattern ws m in
     let S1 : ℕ = flag-share-dealt d y true i r pattern ws m in
     let s0 : half0 .result .own .0 ≡ S0 = flag-share-is d x i r m pattern ws Zero (key0 .result .key) (now (key0 .last .rows .rows))
-        (half0 .result .own .0) (key0 .ensures .key ∙ ap (dealt-flag-key d Zero i r pattern ws) (fine .rows0)) rows0 (half0 .ensures) in
+    (half0 .result .own .0) (key0 .ensures .key ∙ ap (dealt-flag-key d Zero i r pattern ws) (fine .rows0)) rows0 (half0 .ensures) in
     let s1 : half1 .result .own .0 ≡ S1 = flag-share-is d y i r m pattern ws One (key1 .result .key) (now (key1 .last .rows .rows))
-        (half1 .result .own .0) (key1 .ensures .key ∙ ap (dealt-flag-key d One i r pattern ws) (fine .rows1)) rows1 (half1 .ensures) in
+    (half1 .result .own .0) (key1 .ensures .key ∙ ap (dealt-flag-key d One i r pattern ws) (fine .rows1)) rows1 (half1 .ensures) in
     let held = c .exchange .ensures .held in
     let both = held ∙ ap (λ t. xor-of t (half1 .result .own .0)) s0 ∙ ap (xor-of S0) s1 in
     record {
       numbers = ap Ok (three-alike (ap (λ t. t .0) (c .exchange .ensures .share0) ∙ s0) (ap (λ t. t .0) (c .exchange .ensures .share1) ∙ s1) both)
-        ∙ sym (gate-accepted r m bits (c .count .ensures) (c .count-2 .ensures) u (flag-numbers d x y i r pattern ws m) asked);
+          ∙ sym (gate-accepted r m bits (c .count .ensures) (c .count-2 .ensures) u (flag-numbers d x y i r pattern ws m) asked);
       joins = λ ex ey. ap Ok (both ∙ flags-join d x y (g .D·Expander·met .wide) ex ey i r m pattern ws (fine .mask) (fine .held) (search needs))
-        ∙ sym (gate-accepted r m bits (c .count .ensures) (c .count-2 .ensures) u (flag-held i r pattern ws m) asked);
+          ∙ sym (gate-accepted r m bits (c .count .ensures) (c .count-2 .ensures) u (flag-held i r pattern ws m) asked);
       rows0 = rows0;
       rows1 = rows1;
     }

@@ -24,9 +24,9 @@ returns-in-Break-ask-gate g c =
     let m : ℕ = c .args .m .0 in
     record {
       numbers = ap (answer-mean numbers-of) (p .1)
-        ∙ sym (gate-refused r m (ap (λ w. w .bits) (c .width .ensures)) (c .count .ensures) (c .count-2 .ensures) (p .0) _ asked);
+          ∙ sym (gate-refused r m (ap (λ w. w .bits) (c .width .ensures)) (c .count .ensures) (c .count-2 .ensures) (p .0) _ asked);
       joins = λ ex ey. ap (answer-mean held-of) (p .1)
-        ∙ sym (gate-refused r m (ap (λ w. w .bits) (c .width .ensures)) (c .count .ensures) (c .count-2 .ensures) (p .0) _ asked);
+          ∙ sym (gate-refused r m (ap (λ w. w .bits) (c .width .ensures)) (c .count .ensures) (c .count-2 .ensures) (p .0) _ asked);
       rows0 = rw (p .1) refl;
       rows1 = rw (p .1) refl;
     }
@@ -57,17 +57,17 @@ returns g c =
     let S0 : ℕ = piece-share-dealt d x false i r cs ws m in
     let S1 : ℕ = piece-share-dealt d y true i r cs ws m in
     let s0 : half0 .result .own .0 ≡ S0 = piece-share-is d x i r m cs ws Zero (key0 .result .key) (now (key0 .last .rows .rows))
-        (half0 .result .own .0) (key0 .ensures .key ∙ ap (dealt-piece-key d Zero i r cs ws) (fine .rows0)) rows0 (half0 .ensures .share) in
+    (half0 .result .own .0) (key0 .ensures .key ∙ ap (dealt-piece-key d Zero i r cs ws) (fine .rows0)) rows0 (half0 .ensures .share) in
     let s1 : half1 .result .own .0 ≡ S1 = piece-share-is d y i r m cs ws One (key1 .result .key) (now (key1 .last .rows .rows))
-        (half1 .result .own .0) (key1 .ensures .key ∙ ap (dealt-piece-key d One i r cs ws) (fine .rows1)) rows1 (half1 .ensures .share) in
+    (half1 .result .own .0) (key1 .ensures .key ∙ ap (dealt-piece-key d One i r cs ws) (fine .rows1)) rows1 (half1 .ensures .share) in
     let width = half0 .ensures .width ∙ ap (λ k. k .interval .width) (key0 .ensures .key) in
     let held = c .exchange .ensures .held ∙ ap (λ w. sum-of (size w) (half0 .result .own .0) (half1 .result .own .0)) width in
     let both = held ∙ ap (λ t. sum-of N t (half1 .result .own .0)) s0 ∙ ap (sum-of N S0) s1 in
     record {
       numbers = ap Ok (three-alike (ap (λ t. t .0) (c .exchange .ensures .share0) ∙ s0) (ap (λ t. t .0) (c .exchange .ensures .share1) ∙ s1) both)
-        ∙ sym (gate-accepted r m bits (c .count .ensures) (c .count-2 .ensures) u (piece-numbers d x y i r cs ws m) asked);
+          ∙ sym (gate-accepted r m bits (c .count .ensures) (c .count-2 .ensures) u (piece-numbers d x y i r cs ws m) asked);
       joins = λ ex ey. ap Ok (both ∙ pieces-join d x y (g .D·Expander·met .wide) ex ey i r m cs ws (fine .mask) (fine .held))
-        ∙ sym (gate-accepted r m bits (c .count .ensures) (c .count-2 .ensures) u (piece-held i r cs ws m) asked);
+          ∙ sym (gate-accepted r m bits (c .count .ensures) (c .count-2 .ensures) u (piece-held i r cs ws m) asked);
       rows0 = rows0;
       rows1 = rows1;
     }
