@@ -1,7 +1,5 @@
-"""Writes crates/gate_vectors/stdin and stdout: orders for gates and their answers, by the independent calculation of
-reference.py. Run it from anywhere: python3 tests/gates.py"""
-import os
-from keys import QUESTIONS, Random, crate, text, write
+"""Orders for gates and their answers, by the independent calculation of reference.py."""
+from keys import QUESTIONS, Random, text
 from reference import EXPANDERS, Flag, Piece, Product, Scale, Shift, Signed, Sum, Xor, masked
 
 LOCAL = {"sum": Sum, "scale": Scale, "xor": Xor}
@@ -243,14 +241,3 @@ def vectors():
     table.order("gate 2  sum 3 9 12")
     table.order("hold 7 7")
     return table.orders, table.said
-
-
-def main():
-    orders, said = vectors()
-    os.makedirs(crate("gate_vectors", ""), exist_ok=True)
-    write(crate("gate_vectors", "stdin"), orders)
-    write(crate("gate_vectors", "stdout"), said)
-
-
-if __name__ == "__main__":
-    main()

@@ -1,5 +1,4 @@
-"""Writes crates/vectors/stdin and stdout: orders for keys and their answers, by the independent calculation of
-reference.py. Run it from anywhere: python3 tests/keys.py"""
+"""Orders for keys and their answers, by the independent calculation of reference.py."""
 import hashlib
 import os
 from reference import EXPANDERS, GROUPS, deal, evaluate
@@ -128,13 +127,3 @@ def vectors():
 def write(path, lines):
     with open(path, "w") as f:
         f.write("".join(line + "\n" for line in lines))
-
-
-def main():
-    orders, answers = vectors()
-    write(crate("vectors", "stdin"), orders)
-    write(crate("vectors", "stdout"), answers)
-
-
-if __name__ == "__main__":
-    main()

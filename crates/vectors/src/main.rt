@@ -1,4 +1,4 @@
-// Runs the orders on its input; stdin and stdout are tables that tests/keys.py makes by an independent calculation.
+// Runs the orders on its input; stdin and stdout are tables that tests/vectors.py makes by an independent calculation.
 use console::run;
 use std::io;
 
