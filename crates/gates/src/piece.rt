@@ -141,7 +141,8 @@ pub fn piece_gate<D: Expander, X: Expander, Y: Expander>(
 ) -> Result<GateAnswers, Refusal>
     ensures numbers { λ r. ⌜ answer-mean numbers-of r
         ≡ answered (gate-asks (interval .width .bits) mask (m .0) (length (now (now (rows0 .entry) .rows))) (length (now (now (rows1 .entry) .rows))))
-        (piece-numbers (D·Expander .meaning) (X·Expander .meaning) (Y·Expander .meaning) interval mask (now (coefficients .entry)) (now (words .entry)) (m .0)) ⌝ }
+        (piece-numbers (D·Expander .meaning) (X·Expander .meaning) (Y·Expander .meaning) interval mask
+        (now (coefficients .entry)) (now (words .entry)) (m .0)) ⌝ }
     ensures joins { λ r. ⌜ (D·Expander .meaning ≡ X·Expander .meaning → D·Expander .meaning ≡ Y·Expander .meaning
         → answer-mean held-of r
         ≡ answered (gate-asks (interval .width .bits) mask (m .0) (length (now (now (rows0 .entry) .rows))) (length (now (now (rows1 .entry) .rows))))

@@ -75,7 +75,8 @@ returns g c =
           ∙ sym (shift-accepted s r m (c .count .ensures) (c .count-2 .ensures) (c .count-3 .ensures) (c .count-4 .ensures) u
           (signed-shift-numbers d x y s r ws m) asked);
       joins = λ ex ey. ap Ok (both ∙ signed-shifts-join d s r ws m x y (g .D·Expander·met .wide) ex ey (fine .mask) (fine .held))
-          ∙ sym (shift-accepted s r m (c .count .ensures) (c .count-2 .ensures) (c .count-3 .ensures) (c .count-4 .ensures) u (signed-shift-held s r ws m) asked);
+          ∙ sym (shift-accepted s r m (c .count .ensures) (c .count-2 .ensures) (c .count-3 .ensures) (c .count-4 .ensures) u
+          (signed-shift-held s r ws m) asked);
       low0 = low0;
       high0 = high0;
       low1 = low1;
