@@ -1,4 +1,6 @@
 // AES-128 by tables, and the expander of kind 1 that is made of it.
+#![tactic(auto)]
+
 ghost use Rattle.std.specs.Prelude.{◌≡◌, ◌+◌, ◌≤◌};
 ghost use Rattle.aes.specs.Keys.{key_of};
 ghost use Rattle.standards.specs.Fips197.{cipher};

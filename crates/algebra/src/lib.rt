@@ -1,4 +1,6 @@
 // Solvers for proofs: equations modulo N, over the numbers, and in any commutative group. They stand in proofs/.
+#![tactic(auto)]
+
 ghost use Rattle.algebra.specs.Laws.{SquareOfDifference, DifferencesAdd};
 
 use group::Group;

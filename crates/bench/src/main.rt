@@ -1,4 +1,6 @@
 // The benchmark program: checksums alone, or with the argument `time` the time of each workload too.
+#![tactic(auto)]
+
 ghost use Rattle.std.specs.Prelude.{◌≡◌, ◌%◌, ◌^◌, true, length};
 ghost use Rattle.std.specs.Int.Bits.{bit_xor};
 ghost use Rattle.dealing.specs.Dealing.{dealt_last, start};

@@ -1,4 +1,6 @@
 // One wire's body in a book: what it says, and whether it is of its layout with allowed fields.
+#![tactic(auto)]
+
 mod asking;
 mod heads;
 mod reading;

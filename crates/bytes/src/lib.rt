@@ -1,4 +1,6 @@
 // Writing bytes one part after another into a buffer, and reading numbers out of one.
+#![tactic(auto)]
+
 ghost use Rattle.std.specs.Prelude.{◌≡◌, [], ◌∷◌, ◌+◌, ◌≤◌, length};
 ghost use Rattle.stored.specs.Forms.{four_bytes};
 ghost use Rattle.layout.specs.Bytes.{number_at};

@@ -1,4 +1,6 @@
 // ChaCha20, and the expander of kind 2 that is made of it.
+#![tactic(auto)]
+
 ghost use Rattle.standards.specs.Kinds.{kind2};
 ghost use Rattle.standards.proofs.Lengths.{wide2};
 

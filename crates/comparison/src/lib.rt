@@ -1,4 +1,6 @@
 // Comparison keys: the calls that deal a key, evaluate it and join both answers, with the questions that they ask first.
+#![tactic(auto)]
+
 ghost use Rattle.std.specs.Prelude.{◌≡◌, true, false, ◌&&◌, length};
 ghost use Rattle.refusal.specs.Questions.{answered};
 ghost use Rattle.key.specs.Rows.{row_mean, is_one};

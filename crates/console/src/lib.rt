@@ -1,4 +1,6 @@
 // The console: carries out orders, one a line, and prints their answers. docs/CONSOLE.md has the lines.
+#![tactic(auto)]
+
 ghost use Rattle.std.specs.Prelude.{◌≡◌, None};
 ghost use Rattle.orders.specs.Grammar.{parsed};
 ghost use Rattle.console.specs.Remembered.{KeptOr, KeyAfter, GateAfter};

@@ -1,4 +1,6 @@
 // Deals: the book of one box, from a plan and random words.
+#![tactic(auto)]
+
 ghost use Rattle.std.specs.Prelude.{◌≡◌, ◌+◌, ◌<◌, ◌≤◌, true, [], ◌++◌, length, IfOk, ◌==◌};
 ghost use Rattle.key.specs.Rows.{is_one};
 ghost use Rattle.plan.specs.Plans.{planned, words_before};

@@ -1,4 +1,6 @@
 // Dealing a comparison key: its rows and its final element.
+#![tactic(auto)]
+
 ghost use Rattle.std.specs.Prelude.{◌≡◌, not, map, length};
 ghost use Rattle.key.specs.Rows.{row_mean};
 ghost use Rattle.evaluation.specs.Evaluation.{drawn_from};

@@ -1,4 +1,6 @@
 // The plan that is being read, line by line, with its random words.
+#![tactic(auto)]
+
 ghost use Rattle.std.specs.Prelude.{◌≡◌, true, false, [], ◌∷◌, ◌++◌, OnOk};
 ghost use Rattle.draft.specs.Drafts.{numbers_of, drafted, view, with_row, with_words, followed};
 

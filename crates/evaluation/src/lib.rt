@@ -1,4 +1,6 @@
 // One box's evaluation of a comparison key at a point.
+#![tactic(auto)]
+
 ghost use Rattle.std.specs.Prelude.{◌≡◌};
 ghost use Rattle.key.specs.Rows.{is_one};
 ghost use Rattle.evaluation.specs.Evaluation.{differ, side_of, bit_at, walk_mean, begun, stepped, walked, ended, evaluated};

@@ -1,4 +1,6 @@
 // Expanders: two functions of a seed, and the kind number that a book names.
+#![tactic(auto)]
+
 ghost use Rattle.std.specs.Prelude.{◌≡◌};
 ghost use Rattle.expander.specs.declared.Seed.{Seed};
 ghost use Rattle.expander.specs.Meaning.{Expansion, Wide};

@@ -1,4 +1,6 @@
 // The worked figures, as one table with one theorem.
+#![tactic(auto)]
+
 ghost use Rattle.std.specs.Prelude.{◌≡◌, length};
 ghost use Rattle.figures.specs.Figures.{figures, Holds, Each};
 

@@ -1,4 +1,6 @@
 // The body of a gate in a book: what is said before the key, and the key as it is dealt.
+#![tactic(auto)]
+
 ghost use Rattle.std.specs.Prelude.{◌≡◌, ◌+◌, ◌^◌, ◌<◌, ◌≤◌, true, [], ◌∷◌, ◌++◌, drop};
 ghost use Rattle.stored.specs.Forms.{four_bytes};
 ghost use Rattle.key.specs.Rows.{is_one};

@@ -1,4 +1,6 @@
 // What gates are given: intervals and shifts that are allowed, and what random words become.
+#![tactic(auto)]
+
 ghost use Rattle.std.specs.Prelude.{◌≡◌};
 ghost use Rattle.gatekeys.specs.Parameters.{interval_view, shift_view, view_answer, interval_answer, shift_answer};
 ghost use Rattle.gatekeys.specs.Random.{root_of};

@@ -1,4 +1,6 @@
 // Gates with a key: dealing, answering and joining.
+#![tactic(auto)]
+
 mod flag;
 mod interval_key;
 mod piece;

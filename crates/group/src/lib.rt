@@ -1,4 +1,6 @@
 // Output groups: what the answers of a comparison key are added in.
+#![tactic(auto)]
+
 ghost use Rattle.std.specs.Prelude.{◌≡◌, ◌^◌, ◌%◌, ◌≤◌};
 ghost use Rattle.std.proofs.Common.{lit<};
 ghost use Rattle.group.specs.Groups.{OutputGroup, minus};

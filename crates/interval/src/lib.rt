@@ -1,4 +1,6 @@
 // The interval rule: a payload inside an interval of plain values, from a comparison key on held ones.
+#![tactic(auto)]
+
 ghost use Rattle.interval.specs.Interval.{ExtraCount, ExtraTaken, IntervalJoins};
 
 use group::Group;

@@ -1,4 +1,6 @@
 // Gates as they are ordered on the console: the job that an order asks for, or why it is refused.
+#![tactic(auto)]
+
 ghost use Rattle.std.specs.Prelude.{◌≡◌, Ok};
 ghost use Rattle.gatekeys.specs.Parameters.{view_answer};
 ghost use Rattle.orders.specs.declared.types.GateBody.TheVariants as gate;

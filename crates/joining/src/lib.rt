@@ -1,4 +1,6 @@
 // Joining both boxes' answers. The law that they join to the comparison function stands in proofs/.
+#![tactic(auto)]
+
 ghost use Rattle.std.specs.Prelude.{◌≡◌};
 
 use group::Group;

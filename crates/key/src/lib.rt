@@ -1,4 +1,6 @@
 // The rows of a comparison key, in a table over the caller's memory.
+#![tactic(auto)]
+
 ghost use Rattle.std.specs.Prelude.{◌≡◌, length, set};
 ghost use Rattle.key.specs.Rows.{is_one, row_bit};
 

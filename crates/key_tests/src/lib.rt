@@ -1,4 +1,6 @@
 // Tests of the questions that a key's calls ask, and of what a refusal leaves.
+#![tactic(auto)]
+
 #[cfg(test)]
 mod tests {
     use comparison::{compare, deal_key, evaluate};

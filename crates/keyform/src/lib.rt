@@ -1,4 +1,6 @@
 // A comparison key as bytes, for every stored group alike: writing it and reading it.
+#![tactic(auto)]
+
 mod gate_keys;
 mod reading;
 mod writing;

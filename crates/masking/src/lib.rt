@@ -1,4 +1,6 @@
 // Masked numbers: the width, the three kinds of number that a box handles, and the gates that need no key.
+#![tactic(auto)]
+
 ghost use Rattle.std.specs.Prelude.{◌≡◌, ◌%◌, nat_lt};
 ghost use Rattle.interval.specs.Interval.{masked, plain};
 ghost use Rattle.shares.specs.Local.{sum_of, scale_of, scale_mask, xor_of};

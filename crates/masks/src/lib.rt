@@ -1,4 +1,6 @@
 // The random words of a plan's wires, and the mask of every wire.
+#![tactic(auto)]
+
 ghost use Rattle.std.specs.Prelude.{◌≡◌, ◌+◌, ◌%◌, ◌^◌, ◌<◌, ◌≤◌, length, drop, slice_index};
 ghost use Rattle.plan.specs.Plans.{planned, words_at};
 ghost use Rattle.layout.specs.Bytes.{front};

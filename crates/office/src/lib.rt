@@ -1,4 +1,6 @@
 // Plan jobs of the console: keeps the plan that is being read, deals its books, reads books, and says what is in them.
+#![tactic(auto)]
+
 ghost use Rattle.std.specs.Prelude.{◌≡◌, OnOk};
 ghost use Rattle.planlines.specs.Grammar.{parsed};
 ghost use Rattle.draft.specs.Drafts.{view, after};

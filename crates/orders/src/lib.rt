@@ -1,4 +1,6 @@
 // The orders of the console: one line is one order.
+#![tactic(auto)]
+
 ghost use Rattle.std.specs.Prelude.{◌≡◌};
 ghost use Rattle.orders.specs.Grammar.{deal_of, point_of, idle, parsed};
 ghost use Rattle.orders.specs.Lines.{ReadsBack};

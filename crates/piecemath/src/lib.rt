@@ -1,4 +1,6 @@
 // The numbers of a piece, and a box's share of a piece and of a flag.
+#![tactic(auto)]
+
 mod flag;
 mod piece;
 

@@ -1,4 +1,6 @@
 // What each gate means on plain values.
+#![tactic(auto)]
+
 ghost use Rattle.std.specs.Prelude.{◌≡◌, ◌^◌, get_or};
 ghost use Rattle.interval.specs.Interval.{inside};
 ghost use Rattle.masking.specs.Masking.{size};

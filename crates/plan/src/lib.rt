@@ -1,4 +1,6 @@
 // Plans: a width, inputs with an owner, and gates; and the questions that are asked about one.
+#![tactic(auto)]
+
 ghost use Rattle.std.specs.Prelude.{◌≡◌, ◌≤◌};
 ghost use Rattle.plan.specs.Plans.{gives_flag, is_keyed, words_of};
 ghost use Rattle.plan.specs.Order.{SmallerIsTold};

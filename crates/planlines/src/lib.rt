@@ -1,4 +1,6 @@
 // The console's lines about plans and books: one line is one step.
+#![tactic(auto)]
+
 ghost use Rattle.std.specs.Prelude.{◌≡◌, true, false};
 ghost use Rattle.reading.specs.Text.{words};
 ghost use Rattle.planlines.specs.Grammar.{begin_of, words_of, books_of, book_of, parsed};

@@ -1,5 +1,7 @@
 // Runs the published vectors of FIPS 197 and RFC 8439, then what kinds 1 and 2 make of one seed, and writes a line for
 // each. The file stdout beside src/ has the published values: tests/published.py writes it, and not this program.
+#![tactic(auto)]
+
 use aes::{Aes128, RoundKeys};
 use chacha::{ChaCha20, block, quarter_round, quarter_round_at};
 use expander::{Expander, Seed};

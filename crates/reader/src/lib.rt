@@ -1,4 +1,6 @@
 // Reading a book: the questions about it, its header, and what it says of each wire.
+#![tactic(auto)]
+
 mod asking;
 mod reading;
 

@@ -1,4 +1,6 @@
 // Lines cut into words, and words read as numbers and seeds.
+#![tactic(auto)]
+
 mod text;
 mod wrong;
 

@@ -1,4 +1,6 @@
 // Why a call is refused: one case for each question of the rules.
+#![tactic(auto)]
+
 ghost use Rattle.std.specs.Prelude.{◌≡◌};
 ghost use Rattle.refusal.specs.Numbers.{number};
 ghost use Rattle.refusal.specs.Questions.{asked};

@@ -1,4 +1,6 @@
 // Deals that are read: every book that is dealt passes a box's questions, and reads back to what was dealt.
+#![tactic(auto)]
+
 ghost use Rattle.std.specs.Prelude.{◌≡◌, OnOk};
 ghost use Rattle.plan.specs.Plans.{planned};
 ghost use Rattle.dealer.specs.Book.{order};

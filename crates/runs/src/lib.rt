@@ -1,4 +1,6 @@
 // Laws over whole runs of two boxes: definitions in specs/, proofs in proofs/.
+#![tactic(auto)]
+
 ghost use Rattle.runs.specs.Theorem.{ShownValuesStand, CountsStand, MessagesStand, RoundsFill, RoundsRun};
 
 pub fn shown_values_stand() -> u8

@@ -1,4 +1,6 @@
 // The gates on shares: what both boxes' shares come to. The definitions stand in specs/, their laws in proofs/.
+#![tactic(auto)]
+
 ghost use Rattle.shares.specs.Laws.{NumbersSplit, FlagsSplit, ElementsSplit, HeldIsPlain};
 ghost use Rattle.shares.specs.Laws.{SumIsPlain, ScaleIsPlain, XorIsPlain, ProductJoins};
 ghost use Rattle.shares.specs.Laws.{CurveMoves, PieceJoins, FlagJoins, ShiftJoins, SignedShiftJoins, ShiftPowers};

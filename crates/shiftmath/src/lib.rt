@@ -1,4 +1,6 @@
 // The numbers of the shifts: thresholds, payloads, and a box's share.
+#![tactic(auto)]
+
 ghost use Rattle.std.specs.Prelude.{◌≡◌, cond, ◌+◌, ◌-◌, ◌%◌, ◌/◌, ◌^◌, ◌<◌};
 ghost use Rattle.key.specs.Rows.{is_one};
 ghost use Rattle.masking.specs.Masking.{size};

@@ -1,4 +1,6 @@
 // What is split between the boxes, and a box's share of a product.
+#![tactic(auto)]
+
 mod product;
 mod splits;
 

@@ -1,5 +1,7 @@
 // The published standards that the expanders compute, FIPS 197 and RFC 8439, and what kinds 1 and 2 make of them.
 // They are definitions, in specs/, and lemmas, in proofs/; the code here is what every implementation of a kind shares.
+#![tactic(auto)]
+
 ghost use Rattle.std.specs.Prelude.{◌≡◌};
 ghost use Rattle.standards.specs.Kinds.{lowest_bit};
 

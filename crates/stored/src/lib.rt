@@ -1,4 +1,6 @@
 // Stored groups: output groups whose elements are written and read as bytes.
+#![tactic(auto)]
+
 ghost use Rattle.std.specs.Prelude.{◌≡◌, ℕ, ◌+◌, ◌-◌, ◌/◌, ◌%◌, ◌^◌, min, List, ◌++◌, length, MatchOption, ◌≢◌, slice_index};
 ghost use Rattle.std.proofs.Common.{ap, ◌∙◌, length-append, rules, arith};
 ghost use Rattle.stored.specs.Forms.{four_bytes, eight_bytes};

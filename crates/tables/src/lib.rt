@@ -1,4 +1,6 @@
 // Tables of rows before they are dealt.
+#![tactic(auto)]
+
 ghost use Rattle.std.specs.Prelude.{◌≡◌};
 ghost use Rattle.key.specs.Rows.{row_mean};
 ghost use Rattle.tables.specs.Tables.{blank_row};

@@ -1,4 +1,6 @@
 // Runs the orders on its input; stdin and stdout are tables that tests/vectors.py makes by an independent calculation.
+#![tactic(auto)]
+
 use office::run;
 use std::io;
 

@@ -1,4 +1,6 @@
 // The program: carries out the orders on its input, or without input a built-in example.
+#![tactic(auto)]
+
 use console::Session;
 use office::run;
 

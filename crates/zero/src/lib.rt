@@ -1,4 +1,6 @@
 // An expander of zeros, of kind 3. It hides nothing: it is for tests alone.
+#![tactic(auto)]
+
 ghost use Rattle.zero.specs.Zeros.{zeros};
 ghost use Rattle.std.proofs.Common.{rules};
 
