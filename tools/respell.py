@@ -14,6 +14,7 @@ import sys
 TOKEN = re.compile(r'[^\s(){};,@"«»]+')
 DECLARED = re.compile(r'(?m)^ *(?:(?:pub|abbrev|unfoldable|data|record) +)*([^\s(){}.;,@"«»:]+)(?: \{[^{}\n]*\})* :(?!:)')
 BY_HAND = ("Answers.antt", "Invariants.antt", "Proof.antt", "Choices.antt")
+LIBRARIES = ("std", "core", "io", "os", "libc")
 # what else a name could mean where it is used: a field or parameter of src/, or a word of the library
 OTHERWISE = {"in-range": "is_in_range"}
 
@@ -58,14 +59,26 @@ def clauses(text):
         yield m.start(), end
 
 
-def turn(text, names, path):
+def lent(text):
+    """The names that a file takes from a library: they stay there."""
+    names = set()
+    for path, items in re.findall(r"\buse ([^\s;{]+)\{([^}]*)\}", text):
+        if "::" in path:
+            continue
+        steps = path.rstrip(".").split(".")
+        if steps[0] not in ("Rattle", "package") or len(steps) > 1 and steps[1] in LIBRARIES:
+            names |= {item.strip() for item in items.split(",")}
+    return names
+
+
+def turn(text, names, path, kept):
     answers = os.path.basename(path) in BY_HAND
     labels = set(re.findall(r'goal\.([^\s(){}.;,@"«»]+)', text)) if answers else set()
 
     def word(m):
         parts = m[0].split(".")
         for i, part in enumerate(parts):
-            if part not in names or part in labels and (i == 0 or parts[i - 1] == "goal"):
+            if part not in names or part in kept or part in labels and (i == 0 or parts[i - 1] == "goal"):
                 continue
             if answers and i == 1 and parts[0] in ("c", "l", "goal"):
                 continue
@@ -85,13 +98,14 @@ def main():
     changed = 0
     for path in files((".antt", ".rt", ".edit")):
         text = read(path)
+        kept = lent(text)
         if path.endswith(".antt"):
-            to = turn(text, names, path)
+            to = turn(text, names, path, kept)
         else:
             out, at = [], 0
             spans = clauses(text) if path.endswith(".rt") else ((m.start(), m.end()) for m in re.finditer(r"(?:requires|ensures).*", text))
             for a, e in spans:
-                out += [text[at:a], turn(text[a:e], names, path)]
+                out += [text[at:a], turn(text[a:e], names, path, kept)]
                 at = e
             to = "".join(out) + text[at:]
         if to != text:

@@ -1,5 +1,5 @@
 -- A figure holds where its tests pass, and the table is tested at once.
-use Rattle.std.proofs.Common.{◌≡◌, ℕ, ◌+◌, ◌-◌, ◌%◌, ◌^◌, ◌<◌, Bool, true, false, cond, ◌&&◌, eqb, ltb, leb, List, [], ◌∷◌, sym, refl, ap, ◌∙◌, mod_lt, pow_pos}
+use Rattle.std.proofs.Common.{◌≡◌, ℕ, ◌+◌, ◌-◌, ◌%◌, ◌^◌, ◌<◌, Bool, true, false, cond, ◌&&◌, eqb, ltb, leb, List, [], ◌∷◌, sym, refl, ap, ◌∙◌, mod-lt, pow_pos}
 use Rattle.std.proofs.lemmas.Bool.{ltb-true, leb-true, eqb-true, and_parts}
 use Rattle.expander.specs.Meaning.{Expansion}
 use Rattle.expander.specs.declared.Seed.{Seed}
@@ -58,7 +58,7 @@ back : (n r v : ℕ) → r < 2 ^ n → v < 2 ^ n → rule.plain (2 ^ n) r (rule.
 back n r v hr hv = (held_is_plain (2 ^ n) r hr).0 v hv
 
 held_lt : (n r v : ℕ) → rule.masked (2 ^ n) r v < 2 ^ n
-held_lt n r v = mod_lt (v + r) (pow_pos n)
+held_lt n r v = mod-lt (v + r) (pow_pos n)
 
 -- dealt keys join as the comparison says
 module _ (x : Expansion) (wide : AllWide x) where
@@ -70,7 +70,7 @@ module _ (x : Expansion) (wide : AllWide x) where
       → ShiftKeysJoin (2 ^ n) (2 ^ s) r (low_dealt x s r low0 low1 false) (low_dealt x s r low0 low1 true)
       (high_dealt x n s r high0 high1 false) (high_dealt x n s r high0 high1 true)
   shift_keys n s r low0 low1 high0 high1 hr =
-      (keys s (low_threshold (2 ^ s) r) low_payload low0 low1 (mod_lt r (pow_pos s)), keys n r (high_payload (2 ^ n) (2 ^ s)) high0 high1 hr)
+      (keys s (low_threshold (2 ^ s) r) low_payload low0 low1 (mod-lt r (pow_pos s)), keys n r (high_payload (2 ^ n) (2 ^ s)) high0 high1 hr)
 
 -- each kind of figure, from its law
 one : (f : Figure) → If (tests f) (Holds f)
@@ -85,7 +85,7 @@ one (interval n p q r β v j) = λ iv ir ip iq e x wide root0 root1 random-β ra
     let α : ℕ = rule.threshold N r in
     let hr : r < N = ltb-true r N ir in
     answers_join words N (rule.masked N r v) r p q (held_lt n r v) hr (leb-true p q ip) (ltb-true q N iq) (word β) random-β random-E
-    (dealt x n α β root0 root1 false) (dealt x n α β root0 root1 true) (keys x wide n α β root0 root1 (mod_lt (r + (N - 1)) (pow_pos n)))
+    (dealt x n α β root0 root1 false) (dealt x n α β root0 root1 true) (keys x wide n α β root0 root1 (mod-lt (r + (N - 1)) (pow_pos n)))
     ∙ ap (λ t. rule.taken words (rule.inside p q t) (word β)) (back n r v hr (ltb-true v N iv)) ∙ chosen (rule.inside p q v) β j (eqb-true _ _ e)
 one (shift n s r v j) = λ is iN iv ir e x wide low0 low1 high0 high1 out random.
     let hr : r < 2 ^ n = ltb-true r (2 ^ n) ir in

@@ -1,5 +1,5 @@
 -- Two boxes' shares of a flag gate, from their dealt keys.
-use Rattle.std.proofs.Common.{◌≡◌, ℕ, ◌+◌, ◌-◌, ◌%◌, ◌^◌, ◌<◌, Bool, true, false, cond, List, map, get_or, ap, ◌∙◌, mod_lt, pow_pos}
+use Rattle.std.proofs.Common.{◌≡◌, ℕ, ◌+◌, ◌-◌, ◌%◌, ◌^◌, ◌<◌, Bool, true, false, cond, List, map, get_or, ap, ◌∙◌, mod-lt, pow_pos}
 use Rattle.expander.specs.Meaning.{Expansion}
 use Rattle.group.specs.Residues.{Residue}
 use Rattle.group.specs.Flags.{flags}
@@ -60,4 +60,4 @@ flags_join d x y wide ex ey i r m pattern ws hr hm hp =
     flag_is_plain N m r i.low i.high pattern (get_or ws 0 0 % 2 ^ 32) (get_or ws 7 0) hm hr i.ordered i.fits hp
     dr.payload1 dr.extra1
     (dealt_answer flags d x n α β dr.root0 dr.root1 false dr.root0) (dealt_answer flags d y n α β dr.root0 dr.root1 true dr.root1)
-    (dealt_keys_join flags d x y n α β dr.root0 dr.root1 wide ex ey (mod_lt (r + (N - 1)) (pow_pos n)))
+    (dealt_keys_join flags d x y n α β dr.root0 dr.root1 wide ex ey (mod-lt (r + (N - 1)) (pow_pos n)))

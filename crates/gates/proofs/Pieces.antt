@@ -1,5 +1,5 @@
 -- Two boxes' shares of a piece, from their dealt keys.
-use Rattle.std.proofs.Common.{◌≡◌, ℕ, ◌+◌, ◌-◌, ◌%◌, ◌^◌, ◌<◌, Bool, true, false, cond, List, map, get_or, ap, ◌∙◌, mod_lt, pow_pos}
+use Rattle.std.proofs.Common.{◌≡◌, ℕ, ◌+◌, ◌-◌, ◌%◌, ◌^◌, ◌<◌, Bool, true, false, cond, List, map, get_or, ap, ◌∙◌, mod-lt, pow_pos}
 use Rattle.expander.specs.Meaning.{Expansion}
 use Rattle.group.specs.declared.Word.{Word}
 use Rattle.group.specs.declared.Pair.{Pair}
@@ -60,4 +60,4 @@ pieces_join d x y wide ex ey i r m cs ws hr hm =
     piece_is_plain n m r i.low i.high (get_or cs 0 0) (get_or cs 1 0) (get_or cs 2 0) (get_or cs 3 0) (get_or ws 0 0 % N) (get_or ws 13 0)
     i.width.most hm hr i.ordered i.fits dr.payload1 dr.extra1
     (dealt_answer quads d x n α β dr.root0 dr.root1 false dr.root0) (dealt_answer quads d y n α β dr.root0 dr.root1 true dr.root1)
-    (dealt_keys_join quads d x y n α β dr.root0 dr.root1 wide ex ey (mod_lt (r + (N - 1)) (pow_pos n)))
+    (dealt_keys_join quads d x y n α β dr.root0 dr.root1 wide ex ey (mod-lt (r + (N - 1)) (pow_pos n)))

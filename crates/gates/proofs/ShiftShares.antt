@@ -1,5 +1,5 @@
 -- Two boxes' shares of a shift, from their dealt keys.
-use Rattle.std.proofs.Common.{◌≡◌, ℕ, ◌+◌, ◌%◌, ◌^◌, ◌<◌, ◌≤◌, Bool, true, false, cond, List, map, get_or, ap, ◌∙◌, mod_lt, arith, pow_pos}
+use Rattle.std.proofs.Common.{◌≡◌, ℕ, ◌+◌, ◌%◌, ◌^◌, ◌<◌, ◌≤◌, Bool, true, false, cond, List, map, get_or, ap, ◌∙◌, mod-lt, arith, pow_pos}
 use Rattle.expander.specs.Meaning.{Expansion}
 use Rattle.expander.specs.declared.Seed.{Seed}
 use Rattle.group.specs.declared.Word as code
@@ -81,7 +81,7 @@ module _ (d : Expansion) (s : Shift) (r : ℕ) (ws : List ℕ) where
       keys_join : ShiftKeysJoin N S r (low_key_dealt d x false s r ws) (low_key_dealt d y true s r ws) (high_key_dealt d x false s r ws)
           (high_key_dealt d y true s r ws)
       keys_join = (
-        dealt_keys_join words d x y s.by (r % S) (word low_payload) (low_root0 ws) (low_root1 ws) wide ex ey (mod_lt r (pow_pos s.by)),
+        dealt_keys_join words d x y s.by (r % S) (word low_payload) (low_root0 ws) (low_root1 ws) wide ex ey (mod-lt r (pow_pos s.by)),
         dealt_keys_join words d x y s.width.bits r (word (high_payload N S)) (high_root0 ws) (high_root1 ws) wide ex ey hr,
       )
 

@@ -1,6 +1,6 @@
 -- Numbers modulo m, as the numbers that are their own remainder, and the group that they form under addition.
 use Rattle.std.specs.Prelude.{◌≡◌, ℕ, ◌+◌, ◌-◌, ◌%◌, ◌<◌, get_or}
-use Rattle.std.proofs.Common.{sym, ap, ◌∙◌, add_assoc, add_comm, mod_lt, arith}
+use Rattle.std.proofs.Common.{sym, ap, ◌∙◌, add_assoc, add_comm, mod-lt, arith}
 use mathlib.Core.HLevel.{Σ_prop_path}
 use Rattle.std.proofs.Math.Nat.{ℕ_set, mod-mod, mod-add-mod, add-mod, add-mod-mod, mod_self, zero-mod}
 use Rattle.group.specs.Groups.{GroupLaws, OutputGroup}
@@ -28,7 +28,7 @@ residue_laws m pos = record {
       (mod-add-mod (x.0 + y.0) m z.0 ∙ ap (λ n. n % m) (add_assoc x.0 y.0 z.0) ∙ sym (add-mod-mod x.0 (y.0 + z.0) m));
   comm = λ x y. residue_path m _ _ (ap (λ n. n % m) (add_comm x.0 y.0));
   cancel = λ x. residue_path m _ _
-      (mod-add-mod (m - x.0) m x.0 ∙ ap (λ n. n % m) (let h : x.0 < m = omega (arith, mod_lt x.0 pos, x.1) in omega arith) ∙ mod_self m ∙ sym
+      (mod-add-mod (m - x.0) m x.0 ∙ ap (λ n. n % m) (let h : x.0 < m = omega (arith, mod-lt x.0 pos, x.1) in omega arith) ∙ mod_self m ∙ sym
       (zero-mod m));
 }
 

@@ -1,5 +1,5 @@
 -- Two boxes' answers by the interval rule join to the payload inside the interval, and to zero outside.
-use Rattle.std.proofs.Common.{◌≡◌, ℕ, ◌+◌, ◌-◌, ◌<◌, ◌≤◌, Bool, true, false, cond, eqb, ltb, [], ◌∷◌, refl, ◌∙◌, mod_lt, arith}
+use Rattle.std.proofs.Common.{◌≡◌, ℕ, ◌+◌, ◌-◌, ◌<◌, ◌≤◌, Bool, true, false, cond, eqb, ltb, [], ◌∷◌, refl, ◌∙◌, mod-lt, arith}
 use Rattle.group.specs.Groups.{OutputGroup, GroupLaws}
 use Rattle.algebra.proofs.Multiples.{times, times_bit}
 use Rattle.algebra.proofs.Linear.{Term, var, plus, minus, many, linear}
@@ -57,8 +57,8 @@ module _ {M : Type 0} (g : OutputGroup M) where
       let x : ℕ = point N m p in
       let y : ℕ = point N m (after N q) in
       let positive : 0 < N = omega arith in
-      let el = ek x (mod_lt (m + (N - 1 - p)) positive) in
-      let eh = ek y (mod_lt (m + (N - 1 - after N q)) positive) in
+      let el = ek x (mod-lt (m + (N - 1 - p)) positive) in
+      let eh = ek y (mod-lt (m + (N - 1 - after N q)) positive) in
       regroup g.laws (taken g up share0) (taken g up share1) (taken g down share0) (taken g down share1)
       (key0 x) (key1 x) (key0 y) (key1 y) more0 more1
       ∙ cc (both_taken g.laws up share0 share1, both_taken g.laws down share0 share1, es, ee, el, eh)

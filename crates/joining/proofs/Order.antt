@@ -1,5 +1,5 @@
 -- The first bit that differs tells which of two numbers is smaller.
-use Rattle.std.proofs.Common.{◌≡◌, ℕ, zero, suc, ◌+◌, ◌*◌, ◌/◌, ◌%◌, ◌^◌, ◌<◌, ◌≤◌, Bool, true, false, eqb, ltb, ◌⊎◌, sym, refl, ap, ◌∙◌, inl, inr, mod_lt, mod-eq_of_lt, one-add, arith, lit<}
+use Rattle.std.proofs.Common.{◌≡◌, ℕ, zero, suc, ◌+◌, ◌*◌, ◌/◌, ◌%◌, ◌^◌, ◌<◌, ◌≤◌, Bool, true, false, eqb, ltb, ◌⊎◌, sym, refl, ap, ◌∙◌, inl, inr, mod-lt, mod-eq_of_lt, one-add, arith, lit<}
 use native.Mathlib.Nat.{mod-one}
 use Rattle.std.proofs.lemmas.Nat.{mod-pow-add, pow_pos}
 use Rattle.std.proofs.lemmas.Bool.{lt-ltb, le-ltb, cases_lt}
@@ -35,8 +35,8 @@ below_mod : (k m α : ℕ) → below k m α ≡ ltb (m % 2 ^ k) (α % 2 ^ k)
 below_mod zero m α = sym (le-ltb (m % 1) (α % 1) (omega (arith, mod-one m, mod-one α)))
 below_mod (suc k) m α =
     ap (pick (bit_at α k) (bit_at m k)) (below_mod k m α)
-    ∙ digit (m % 2 ^ k) (α % 2 ^ k) (2 ^ k) (m / 2 ^ k % 2) (α / 2 ^ k % 2) (mod_lt m (pow_pos k)) (mod_lt α (pow_pos k)) (mod_lt (m / 2 ^ k) (lit< tt))
-    (mod_lt (α / 2 ^ k) (lit< tt))
+    ∙ digit (m % 2 ^ k) (α % 2 ^ k) (2 ^ k) (m / 2 ^ k % 2) (α / 2 ^ k % 2) (mod-lt m (pow_pos k)) (mod-lt α (pow_pos k)) (mod-lt (m / 2 ^ k) (lit< tt))
+    (mod-lt (α / 2 ^ k) (lit< tt))
     ∙ sym (ap (λ n. ltb n (α % 2 ^ suc k)) (bit_split m k) ∙ ap (λ n. ltb ((m / 2 ^ k % 2) * 2 ^ k + m % 2 ^ k) n) (bit_split α k))
 
 pub below_is : (n m α : ℕ) → m < 2 ^ n → α < 2 ^ n → below n m α ≡ ltb m α

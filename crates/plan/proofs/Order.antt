@@ -1,5 +1,5 @@
 -- Which of two values counts as smaller.
-use Rattle.std.proofs.Common.{◌≡◌, ℕ, ◌+◌, ◌-◌, ◌*◌, ◌/◌, ◌%◌, ◌^◌, ◌<◌, ◌≤◌, Bool, true, false, cond, ◌&&◌, leb, sym, refl, ap, ◌∙◌, mod_lt, add-mul, one-mul, arith, pow_pos}
+use Rattle.std.proofs.Common.{◌≡◌, ℕ, ◌+◌, ◌-◌, ◌*◌, ◌/◌, ◌%◌, ◌^◌, ◌<◌, ◌≤◌, Bool, true, false, cond, ◌&&◌, leb, sym, refl, ap, ◌∙◌, mod-lt, add-mul, one-mul, arith, pow_pos}
 use Rattle.std.proofs.lemmas.Bool.Decides.{nat_tests}
 use Rattle.algebra.proofs.Modulo.{Cong, is, plus, same, then, back, reduced, multiple, since}
 use Rattle.interval.specs.Interval.{inside}
@@ -32,4 +32,4 @@ smaller_is_told n t a b la lb =
     let N = 2 ^ n in
     let pos : 1 ≤ N = pow_pos n in
     let v = (a + ((N - 1) * b + 0) % N) % N in
-    ap (λ c. cond c t 0) (up_to_last N v (mod_lt (a + ((N - 1) * b + 0) % N) pos) ∙ ap (leb (N / 2)) (apart N a b pos lb))
+    ap (λ c. cond c t 0) (up_to_last N v (mod-lt (a + ((N - 1) * b + 0) % N) pos) ∙ ap (leb (N / 2)) (apart N a b pos lb))

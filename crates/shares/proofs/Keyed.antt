@@ -1,5 +1,5 @@
 -- The keyed gates' shares, from keys that join, make the plain meanings under the output masks.
-use Rattle.std.proofs.Common.{◌≡◌, ℕ, ◌+◌, ◌-◌, ◌/◌, ◌%◌, ◌^◌, ◌<◌, ◌≤◌, Bool, true, false, cond, ltb, sym, ap, ◌∙◌, mod_lt, mod-eq_of_lt, div-le_self, arith, pow_pos, pow_mono}
+use Rattle.std.proofs.Common.{◌≡◌, ℕ, ◌+◌, ◌-◌, ◌/◌, ◌%◌, ◌^◌, ◌<◌, ◌≤◌, Bool, true, false, cond, ltb, sym, ap, ◌∙◌, mod-lt, mod-eq_of_lt, div-le_self, arith, pow_pos, pow_mono}
 use native.Mathlib.Nat.{mod-mod}
 use Rattle.group.specs.Groups.{OutputGroup}
 use Rattle.group.specs.Residues.{Residue}
@@ -57,7 +57,7 @@ shift_is_plain n s m r out random hs hn hm hr low0 low1 high0 high1 keys =
     let N : ℕ = 2 ^ n in let S : ℕ = 2 ^ s in
     let x : ℕ = low_point S m in
     shift_joins n s m r out random (low0 x).0 (low1 x).0 (high0 m).0 (high1 m).0 hs hn hm hr
-    (word_join (ltb x (low_threshold S r)) (low0 x) (low1 x) low_payload (keys.0 x (mod_lt m (pow_pos s))))
+    (word_join (ltb x (low_threshold S r)) (low0 x) (low1 x) low_payload (keys.0 x (mod-lt m (pow_pos s))))
     (word_join (ltb m r) (high0 m) (high1 m) (high_payload N S) (keys.1 m hm) ∙ ap (λ e. cond (ltb m r) e 0) (high_payload_fits n s hn))
 
 pub signed_shift_is_plain : SignedShiftIsPlain
@@ -66,6 +66,6 @@ signed_shift_is_plain n s m r out random hs hn hm hr low0 low1 high0 high1 keys 
     let k : ℕ = signed_held N m in
     let x : ℕ = low_point S k in
     signed_shift_joins n s m r out random (low0 x).0 (low1 x).0 (high0 k).0 (high1 k).0 hs hn hm hr
-    (word_join (ltb x (low_threshold S r)) (low0 x) (low1 x) low_payload (keys.0 x (mod_lt k (pow_pos s))))
-    (word_join (ltb k r) (high0 k) (high1 k) (high_payload N S) (keys.1 k (mod_lt (m + N / 2) (pow_pos n)))
+    (word_join (ltb x (low_threshold S r)) (low0 x) (low1 x) low_payload (keys.0 x (mod-lt k (pow_pos s))))
+    (word_join (ltb k r) (high0 k) (high1 k) (high_payload N S) (keys.1 k (mod-lt (m + N / 2) (pow_pos n)))
     ∙ ap (λ e. cond (ltb k r) e 0) (high_payload_fits n s hn))

@@ -1,5 +1,5 @@
 -- Both boxes' shares of a product join to the product of the plain values under the output mask.
-use Rattle.std.proofs.Common.{◌≡◌, ℕ, ◌+◌, ◌-◌, ◌*◌, ◌%◌, ◌<◌, ◌≤◌, true, false, mod_lt, arith}
+use Rattle.std.proofs.Common.{◌≡◌, ℕ, ◌+◌, ◌-◌, ◌*◌, ◌%◌, ◌<◌, ◌≤◌, true, false, mod-lt, arith}
 use Rattle.algebra.proofs.Modulo.{Cong, is, same, back, then, plus, times, since, reduced, multiple}
 use Rattle.interval.specs.Interval.{plain}
 use Rattle.shares.specs.Product.{part_a, part_b, part_c, product_share}
@@ -9,7 +9,7 @@ use Rattle.shares.proofs.Splits.{plain_is, parts_join}
 -- c + w − p − q, with remainders taken on the way
 difference_is : (N p q c w : ℕ) → 0 < N → Cong N ((c + w % N + (N - p % N) + (N - q % N)) % N + (p + q)) (c + w)
 difference_is N p q c w positive =
-    let hp : p % N < N = mod_lt p positive in let hq : q % N < N = mod_lt q positive in
+    let hp : p % N < N = mod-lt p positive in let hq : q % N < N = mod-lt q positive in
     since (plus (reduced (c + w % N + (N - p % N) + (N - q % N)))
     (plus (reduced w) (plus (back (reduced p)) (plus (back (reduced q)) (multiple 2))))) _ _ (omega arith)
 

@@ -1,5 +1,5 @@
 -- Shifts of masked numbers, and the join of their shares.
-use Rattle.std.proofs.Common.{◌≡◌, ℕ, suc, ◌+◌, ◌-◌, ◌*◌, ◌/◌, ◌%◌, ◌^◌, ◌<◌, ◌≤◌, Bool, true, false, cond, ltb, ◌⊎◌, pos, negsuc, sym, refl, ap, ◌∙◌, inl, inr, mod_lt, mod-eq_of_lt, mul-le-mul_left, div-le_self, arith, pow_pos, pow-add}
+use Rattle.std.proofs.Common.{◌≡◌, ℕ, suc, ◌+◌, ◌-◌, ◌*◌, ◌/◌, ◌%◌, ◌^◌, ◌<◌, ◌≤◌, Bool, true, false, cond, ltb, ◌⊎◌, pos, negsuc, sym, refl, ap, ◌∙◌, inl, inr, mod-lt, mod-eq_of_lt, mul-le-mul_left, div-le_self, arith, pow_pos, pow-add}
 use native.Mathlib.Nat.{mod-add-mod}
 use lib.IntN.{sub_ℕ}
 use lib.Signed.{shr_z}
@@ -27,8 +27,8 @@ carry S v r A b ps hb e =
     let y : ℕ = v % S in let d : ℕ = r % S in let x : ℕ = v / S in let c : ℕ = r / S in
     let ev : x * S + y ≡ v = div-add-mod' v S in
     let er : c * S + d ≡ r = div-add-mod' r S in
-    let hy : y < S = mod_lt v ps in
-    let hd : d < S = mod_lt r ps in
+    let hy : y < S = mod-lt v ps in
+    let hd : d < S = mod-lt r ps in
     elim (cases_lt (y + d) S) [
       | inl h ↦ (let k : A ≡ x + c = same_digit S A b (x + c) (y + d) hb h (omega arith) in
           let j : b ≡ y + d = (let m : A * S ≡ (x + c) * S = ap (λ n. n * S) k in omega arith) in
@@ -44,7 +44,7 @@ shift_is : (S T N m r : ℕ) → N ≡ T * S → 0 < S → m < N → r < N
 shift_is S T N m r eN ps hm hr =
     let v : ℕ = plain N r m in
     let em : m / S * S + m % S ≡ m = div-add-mod' m S in
-    let hb : m % S < S = mod_lt m ps in
+    let hb : m % S < S = mod-lt m ps in
     elim (cases_lt m r) [
       | inl h ↦ (let w : bit (ltb m r) ≡ 1 = ap bit (lt-ltb m r h) in
           let e : v + r ≡ m + N = omega (arith, wrap (m + (N - r)) N (omega arith)) in
@@ -127,7 +127,7 @@ sign_low N H S v hv h =
 sign_high : (N H S U v : ℕ) → N ≡ 2 * U * S → 0 < S → v < N → H ≤ v → shifted_sign N H S v + 2 * U ≡ v / S + N
 sign_high N H S U v eN ps hv h =
     let ev : v / S * S + v % S ≡ v = div-add-mod' v S in
-    let hy : v % S < S = mod_lt v ps in
+    let hy : v % S < S = mod-lt v ps in
     let q : v / S < 2 * U = div_below v S (2 * U) ps (omega arith) in
     let p : ℕ = 2 * U - 1 - v / S in
     let w : p * S + v / S * S + S ≡ N = (let t : 2 * U ≡ p + v / S + 1 = omega arith in sym (eN ∙ ap (λ n. n * S) t ∙ omega arith)) in
@@ -146,14 +146,14 @@ sign_high N H S U v eN ps hv h =
 moved_sign : (N H S U v : ℕ) → N ≡ 2 * U * S → H ≡ U * S → 0 < S → v < N → Cong N (shifted_sign N H S v + U) ((v + H) % N / S)
 moved_sign N H S U v eN eH ps hv =
     let ev : v / S * S + v % S ≡ v = div-add-mod' v S in
-    let hy : v % S < S = mod_lt v ps in
+    let hy : v % S < S = mod-lt v ps in
     let v' : ℕ = (v + H) % N in
     elim (cases_lt v H) [
       | inl h ↦ (let e : v' ≡ (v / S + U) * S + v % S = omega (arith, wrap (v + H) N (omega arith)) in
           equal (ap (λ n. n + U) (sign_low N H S v hv h) ∙ sym (ap (λ n. n / S) e ∙ digits_div (v / S + U) hy)))
       | inr h ↦ (let e : v' + H ≡ v / S * S + v % S = omega (arith, wrap (v + H) N (omega arith)) in
           let ew : v' / S * S + v' % S ≡ v' = div-add-mod' v' S in
-          let hw : v' % S < S = mod_lt v' ps in
+          let hw : v' % S < S = mod-lt v' ps in
           let k : v' / S + U ≡ v / S = same_digit S (v' / S + U) (v' % S) (v / S) (v % S) hw hy (omega arith) in
           let z : shifted_sign N H S v + 2 * U ≡ v / S + N = sign_high N H S U v eN ps hv h in
           since {N = N} (multiple 1) _ _ (omega arith))
@@ -174,11 +174,11 @@ signed_shift_joins n s m r out random low0 low1 high0 high1 hs hn hm hr hl hh =
     let positive : 0 < N = pow_pos n in
     let small : U ≤ N = omega (arith, mul-le-mul_left U (pow_pos s)) in
     let p : Cong N (plain_signed_shift N S v + U) ((v + H) % N / S)
-    = moved_sign N H S U v eN (half_steps n s hs) (pow_pos s) (mod_lt (m + (N - r)) positive) in
+    = moved_sign N H S U v eN (half_steps n s hs) (pow_pos s) (mod-lt (m + (N - r)) positive) in
     let q = sums_join S (2 ^ (n - s)) N k r out low0 low1 high0 high1
     (part_of_number false N (shift_rest N S r out) random) (part_of_number true N (shift_rest N S r out) random)
     (k / S + (N - H / S)) (N - H / S)
-    (steps n s (omega arith)) (pow_pos s) (power_divides n (omega arith)) (mod_lt (m + H) positive) hr hl
+    (steps n s (omega arith)) (pow_pos s) (power_divides n (omega arith)) (mod-lt (m + H) positive) hr hl
     (hh ∙ ap (λ j. cond (ltb k r) j 0) (steps_count n s (omega arith)))
     (parts_join N (shift_rest N S r out) random positive) refl in
     let x : plain N r k / S ≡ (v + H) % N / S = ap (λ j. j / S) (plain_moved N r m H) in

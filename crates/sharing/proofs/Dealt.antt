@@ -1,5 +1,5 @@
 -- A deal of a plan that passes the questions: local gates keep held values right, and shares of keyed gates join.
-use Rattle.std.proofs.Common.{◌≡◌, ℕ, ◌+◌, ◌-◌, ◌*◌, ◌/◌, ◌%◌, ◌^◌, ◌<◌, ◌≤◌, Bool, true, false, cond, ◌&&◌, ltb, leb, List, [], ◌∷◌, length, get_or, drop, sym, refl, ap, ◌∙◌, subst, ap₂, add-zero, mod_lt, arith, get_or-drop, pow_pos}
+use Rattle.std.proofs.Common.{◌≡◌, ℕ, ◌+◌, ◌-◌, ◌*◌, ◌/◌, ◌%◌, ◌^◌, ◌<◌, ◌≤◌, Bool, true, false, cond, ◌&&◌, ltb, leb, List, [], ◌∷◌, length, get_or, drop, sym, refl, ap, ◌∙◌, subst, ap₂, add-zero, mod-lt, arith, get_or-drop, pow_pos}
 use lib.Bits.{bit_xor, xor_lt}
 use Rattle.std.proofs.lemmas.Bool.{and_parts, ltb-true, ltb-false, leb-true, lt-ltb, false≢true}
 use Rattle.expander.specs.Meaning.{Expansion}
@@ -104,7 +104,7 @@ module _ (d x y : Expansion) (wide : AllWide d) (ex : d ≡ x) (ey : d ≡ y)
       let s : ℕ = get_or (masks p words) j 0 in (
         product_joins N (masked N r v) (masked N s u) r s (get_or w 0 0 % N) (get_or w 1 0) (get_or w 2 0) (get_or w 3 0) (mask_low i ei) (mask_low j ej)
             ∙ ap₂ (λ (m k : ℕ). (plain_product N m k + get_or w 0 0 % N) % N) ((held_is_plain N r (mask_low i ei)).0 v hv) ((held_is_plain N s (mask_low j ej)).0 u hu),
-        elim [ Zero ↦ lt-ltb _ _ (mod_lt _ (pow_pos p.width)) | One ↦ lt-ltb _ _ (mod_lt _ (pow_pos p.width)) ],
+        elim [ Zero ↦ lt-ltb _ _ (mod-lt _ (pow_pos p.width)) | One ↦ lt-ltb _ _ (mod-lt _ (pow_pos p.width)) ],
       )
 
   piece_joined : (w : List ℕ) (i l h : ℕ) (c : List ℕ) (v : ℕ) → is_flag p i ≡ false → l ≤ h → h < 2 ^ p.width → v < 2 ^ p.width
@@ -115,20 +115,20 @@ module _ (d x y : Expansion) (wide : AllWide d) (ex : d ≡ x) (ey : d ≡ y)
       let N : ℕ = 2 ^ p.width in
       let r : ℕ = get_or (masks p words) i 0 in (
         piece_is_plain p.width (masked N r v) r l h (get_or c 0 0) (get_or c 1 0) (get_or c 2 0) (get_or c 3 0) (get_or w 0 0 % N) (get_or w 13 0) a.few_bits
-            (mod_lt _ (pow_pos p.width)) (mask_low i ei) lh hh (piece_draws w).payload1 (piece_draws w).extra1
+            (mod-lt _ (pow_pos p.width)) (mask_low i ei) lh hh (piece_draws w).payload1 (piece_draws w).extra1
             (dealt_answer quads d x p.width (threshold N r) (payload_of r c) (piece_draws w).root0 (piece_draws w).root1 false (piece_draws w).root0)
             (dealt_answer quads d y p.width (threshold N r) (payload_of r c) (piece_draws w).root0 (piece_draws w).root1 true (piece_draws w).root1)
-            (dealt_keys_join quads d x y p.width (threshold N r) (payload_of r c) (piece_draws w).root0 (piece_draws w).root1 wide ex ey (mod_lt _ (pow_pos p.width)))
+            (dealt_keys_join quads d x y p.width (threshold N r) (payload_of r c) (piece_draws w).root0 (piece_draws w).root1 wide ex ey (mod-lt _ (pow_pos p.width)))
             ∙ ap (λ (m : ℕ). (plain_piece N l h (get_or c 0 0) (get_or c 1 0) (get_or c 2 0) (get_or c 3 0) m + get_or w 0 0 % N) % N) ((held_is_plain N r (mask_low i ei)).0 v hv),
-        elim [ Zero ↦ lt-ltb _ _ (mod_lt _ (pow_pos p.width)) | One ↦ lt-ltb _ _ (mod_lt _ (pow_pos p.width)) ],
+        elim [ Zero ↦ lt-ltb _ _ (mod-lt _ (pow_pos p.width)) | One ↦ lt-ltb _ _ (mod-lt _ (pow_pos p.width)) ],
       )
 
   residue_low : (z : Residue (2 ^ 32)) → z.0 < 2 ^ 32
-  residue_low z = let h = mod_lt z.0 (pow_pos 32) in let e = z.1 in subst (λ (k : ℕ). k < 2 ^ 32) e h
+  residue_low z = let h = mod-lt z.0 (pow_pos 32) in let e = z.1 in subst (λ (k : ℕ). k < 2 ^ 32) e h
 
   part_low : (one : Bool) (out random : ℕ) → out < 2 ^ 32 → part_of_flags one out random < 2 ^ 32
-  part_low true out random h = mod_lt random (pow_pos 32)
-  part_low false out random h = xor_lt 32 out (random % 2 ^ 32) h (mod_lt random (pow_pos 32))
+  part_low true out random h = mod-lt random (pow_pos 32)
+  part_low false out random h = xor_lt 32 out (random % 2 ^ 32) h (mod-lt random (pow_pos 32))
 
   flag_part_low : (z : Residue (2 ^ 32)) (one : Bool) (out random : ℕ) → out < 2 ^ 32 → ltb (bit_xor z.0 (part_of_flags one out random)) (2 ^ 32) ≡ true
   flag_part_low z one out random h = lt-ltb _ _ (xor_lt 32 z.0 (part_of_flags one out random) (residue_low z) (part_low one out random h))
@@ -144,10 +144,10 @@ module _ (d x y : Expansion) (wide : AllWide d) (ex : d ≡ x) (ey : d ≡ y)
       let said : Bool → (ℕ → Residue (2 ^ 32)) → Residue (2 ^ 32)
       = λ one k. answer flags N (masked N r v) l h (part_of_element flags one (flag_word t) (flag_draws w).payload1)
       (part_of_element flags one (extra flags N r l h (flag_word t)) (flag_draws w).extra1) k in
-      let out : get_or w 0 0 % 2 ^ 32 < 2 ^ 32 = mod_lt (get_or w 0 0) (pow_pos 32) in (
+      let out : get_or w 0 0 % 2 ^ 32 < 2 ^ 32 = mod-lt (get_or w 0 0) (pow_pos 32) in (
         flag_is_plain N (masked N r v) r l h t (get_or w 0 0 % 2 ^ 32) (get_or w 7 0)
-            (mod_lt _ (pow_pos p.width)) (mask_low i ei) lh hh ht (flag_draws w).payload1 (flag_draws w).extra1 (key x false (flag_draws w).root0) (key y true (flag_draws w).root1)
-            (dealt_keys_join flags d x y p.width (threshold N r) (flag_word t) (flag_draws w).root0 (flag_draws w).root1 wide ex ey (mod_lt _ (pow_pos p.width)))
+            (mod-lt _ (pow_pos p.width)) (mask_low i ei) lh hh ht (flag_draws w).payload1 (flag_draws w).extra1 (key x false (flag_draws w).root0) (key y true (flag_draws w).root1)
+            (dealt_keys_join flags d x y p.width (threshold N r) (flag_word t) (flag_draws w).root0 (flag_draws w).root1 wide ex ey (mod-lt _ (pow_pos p.width)))
             ∙ ap (λ (m : ℕ). bit_xor (plain_flag l h t m) (get_or w 0 0 % 2 ^ 32)) ((held_is_plain N r (mask_low i ei)).0 v hv),
         elim [
           | Zero ↦ flag_part_low (said false (key x false (flag_draws w).root0)) false (get_or w 0 0 % 2 ^ 32) (get_or w 7 0) out
@@ -165,13 +165,13 @@ module _ (d x y : Expansion) (wide : AllWide d) (ex : d ≡ x) (ey : d ≡ y)
       = λ z one root. dealt_answer word-group d z s (low_threshold (2 ^ s) r) (word low_payload) (low_root0 w) (low_root1 w) one root in
       let high : Expansion → Bool → Seed → ℕ → Word
       = λ z one root. dealt_answer word-group d z p.width r (word (high_payload N (2 ^ s))) (high_root0 w) (high_root1 w) one root in (
-        shift_is_plain p.width s (masked N r v) r (get_or w 0 0 % N) (get_or w 9 0) (omega arith) a.few_bits (mod_lt _ (pow_pos p.width)) (mask_low i ei)
+        shift_is_plain p.width s (masked N r v) r (get_or w 0 0 % N) (get_or w 9 0) (omega arith) a.few_bits (mod-lt _ (pow_pos p.width)) (mask_low i ei)
             (low x false (low_root0 w)) (low y true (low_root1 w)) (high x false (high_root0 w)) (high y true (high_root1 w)) (
-              dealt_keys_join word-group d x y s (low_threshold (2 ^ s) r) (word low_payload) (low_root0 w) (low_root1 w) wide ex ey (mod_lt r (pow_pos s)),
+              dealt_keys_join word-group d x y s (low_threshold (2 ^ s) r) (word low_payload) (low_root0 w) (low_root1 w) wide ex ey (mod-lt r (pow_pos s)),
               dealt_keys_join word-group d x y p.width r (word (high_payload N (2 ^ s))) (high_root0 w) (high_root1 w) wide ex ey (mask_low i ei),
             )
             ∙ ap (λ (m : ℕ). (plain_shift (2 ^ s) m + get_or w 0 0 % N) % N) ((held_is_plain N r (mask_low i ei)).0 v hv),
-        elim [ Zero ↦ lt-ltb _ _ (mod_lt _ (pow_pos p.width)) | One ↦ lt-ltb _ _ (mod_lt _ (pow_pos p.width)) ],
+        elim [ Zero ↦ lt-ltb _ _ (mod-lt _ (pow_pos p.width)) | One ↦ lt-ltb _ _ (mod-lt _ (pow_pos p.width)) ],
       )
 
   signed_joined : (w : List ℕ) (i s v : ℕ) → is_flag p i ≡ false → s < p.width → v < 2 ^ p.width
@@ -184,13 +184,13 @@ module _ (d x y : Expansion) (wide : AllWide d) (ex : d ≡ x) (ey : d ≡ y)
       = λ z one root. dealt_answer word-group d z s (low_threshold (2 ^ s) r) (word low_payload) (low_root0 w) (low_root1 w) one root in
       let high : Expansion → Bool → Seed → ℕ → Word
       = λ z one root. dealt_answer word-group d z p.width r (word (high_payload N (2 ^ s))) (high_root0 w) (high_root1 w) one root in (
-        signed_shift_is_plain p.width s (masked N r v) r (get_or w 0 0 % N) (get_or w 9 0) hs a.few_bits (mod_lt _ (pow_pos p.width)) (mask_low i ei)
+        signed_shift_is_plain p.width s (masked N r v) r (get_or w 0 0 % N) (get_or w 9 0) hs a.few_bits (mod-lt _ (pow_pos p.width)) (mask_low i ei)
             (low x false (low_root0 w)) (low y true (low_root1 w)) (high x false (high_root0 w)) (high y true (high_root1 w)) (
-              dealt_keys_join word-group d x y s (low_threshold (2 ^ s) r) (word low_payload) (low_root0 w) (low_root1 w) wide ex ey (mod_lt r (pow_pos s)),
+              dealt_keys_join word-group d x y s (low_threshold (2 ^ s) r) (word low_payload) (low_root0 w) (low_root1 w) wide ex ey (mod-lt r (pow_pos s)),
               dealt_keys_join word-group d x y p.width r (word (high_payload N (2 ^ s))) (high_root0 w) (high_root1 w) wide ex ey (mask_low i ei),
             )
             ∙ ap (λ (m : ℕ). (plain_signed_shift N (2 ^ s) m + get_or w 0 0 % N) % N) ((held_is_plain N r (mask_low i ei)).0 v hv),
-        elim [ Zero ↦ lt-ltb _ _ (mod_lt _ (pow_pos p.width)) | One ↦ lt-ltb _ _ (mod_lt _ (pow_pos p.width)) ],
+        elim [ Zero ↦ lt-ltb _ _ (mod-lt _ (pow_pos p.width)) | One ↦ lt-ltb _ _ (mod-lt _ (pow_pos p.width)) ],
       )
 
   -- what a gate that reads one number wire, or two, is held at

@@ -1,5 +1,5 @@
 -- A plan that passes the questions is well formed.
-use Rattle.std.proofs.Common.{◌≡◌, ℕ, ◌+◌, ◌-◌, ◌*◌, ◌/◌, ◌%◌, ◌^◌, ◌<◌, ◌≤◌, Bool, true, false, cond, ◌&&◌, eqb, ltb, leb, ◌⊎◌, List, [], ◌∷◌, length, get_or, ℤ, pos, negsuc, sym, refl, ap, ◌∙◌, subst, inl, inr, mod_lt, div-le_self, arith, pow_pos}
+use Rattle.std.proofs.Common.{◌≡◌, ℕ, ◌+◌, ◌-◌, ◌*◌, ◌/◌, ◌%◌, ◌^◌, ◌<◌, ◌≤◌, Bool, true, false, cond, ◌&&◌, eqb, ltb, leb, ◌⊎◌, List, [], ◌∷◌, length, get_or, ℤ, pos, negsuc, sym, refl, ap, ◌∙◌, subst, inl, inr, mod-lt, div-le_self, arith, pow_pos}
 use lib.Bits.{bit_xor, xor_lt}
 use lib.Signed.{shr_z}
 use Rattle.std.proofs.lemmas.List.{get_or_past}
@@ -30,7 +30,7 @@ flag_below n false x e h = absurd (false≢true e)
 
 -- a remainder of an integer is below N
 remainder_below : (z : ℤ) (N : ℕ) → 0 < N → remainder z N < N
-remainder_below (pos a) N h = mod_lt a h
+remainder_below (pos a) N h = mod-lt a h
 remainder_below (negsuc a) N h = omega arith
 
 taken_below : (b : Bool) (x y : ℕ) → x < y → cond b x 0 < y
@@ -58,10 +58,10 @@ module _ (p : Planned) where
   -- each gate means a value of its wire's kind
   means_body : (k : ℕ) (g : GateBody) (vs : List ℕ) → reads_fit p k g ≡ true → fields_fit p.width g ≡ true
       → AllWithin (wiring_of p) (reads g) vs → (values p.width (gives_flag g)).within (plain_gate p.width g vs) ≡ true
-  means_body k (Sum i j) vs r f a = lt-ltb _ _ (mod_lt _ (pow_pos p.width))
-  means_body k (Scale i c d) vs r f a = lt-ltb _ _ (mod_lt _ (pow_pos p.width))
-  means_body k (Product i j) vs r f a = lt-ltb _ _ (mod_lt _ (pow_pos p.width))
-  means_body k (Piece i l h c) vs r f a = lt-ltb _ _ (taken_below (inside l h (get_or vs 0 0)) _ (2 ^ p.width) (mod_lt _ (pow_pos p.width)))
+  means_body k (Sum i j) vs r f a = lt-ltb _ _ (mod-lt _ (pow_pos p.width))
+  means_body k (Scale i c d) vs r f a = lt-ltb _ _ (mod-lt _ (pow_pos p.width))
+  means_body k (Product i j) vs r f a = lt-ltb _ _ (mod-lt _ (pow_pos p.width))
+  means_body k (Piece i l h c) vs r f a = lt-ltb _ _ (taken_below (inside l h (get_or vs 0 0)) _ (2 ^ p.width) (mod-lt _ (pow_pos p.width)))
   means_body k (Flag i l h t) vs r f a =
       lt-ltb _ _ (taken_below (inside l h (get_or vs 0 0)) t (2 ^ 32) (ltb-true t (2 ^ 32) (and_parts (interval_fits p.width l h) (below 32 t) f).1))
   means_body k (Shift i s) [] r f a = absurd a

@@ -1,5 +1,5 @@
 -- The values of a wire form a group, and local gates act on held values as on plain ones.
-use Rattle.std.proofs.Common.{◌≡◌, ℕ, ◌+◌, ◌-◌, ◌*◌, ◌/◌, ◌%◌, ◌^◌, ◌<◌, ◌≤◌, Bool, true, false, sym, refl, ap, ◌∙◌, mod_lt, mod-eq_of_lt, add_comm, arith, pow_pos, pow_mono}
+use Rattle.std.proofs.Common.{◌≡◌, ℕ, ◌+◌, ◌-◌, ◌*◌, ◌/◌, ◌%◌, ◌^◌, ◌<◌, ◌≤◌, Bool, true, false, sym, refl, ap, ◌∙◌, mod-lt, mod-eq_of_lt, add_comm, arith, pow_pos, pow_mono}
 use native.Mathlib.Nat.{mod-add-mod, add-mod-mod, add-mod_right, add-mul-mod_self_left, mod-add-div}
 use lib.Bits.{bit_xor, xor_comm, xor_lt, xor_assoc, xor_self, xor_zero_r}
 use Rattle.std.proofs.lemmas.Bool.{ltb-true, lt-ltb}
@@ -15,7 +15,7 @@ added_off N a b h g =
 numbers_lawful : (N : ℕ) → 0 < N → N ≤ 2 ^ 32 → Lawful (numbers N)
 numbers_lawful N some narrow = record {
   small = λ a h. let z = ltb-true a N h in omega arith;
-  closed = λ a b h g. lt-ltb _ _ (mod_lt (a + b) some);
+  closed = λ a b h g. lt-ltb _ _ (mod-lt (a + b) some);
   comm = λ a b. ap (λ (x : ℕ). x % N) (add_comm a b);
   cancels = λ a b h g. added_off N a b (ltb-true a N h) (ltb-true b N g);
 }

@@ -1,6 +1,6 @@
 -- A number's bytes and its remainder modulo a power of 256 tell each other.
 use Rattle.std.specs.Prelude.{◌≡◌, ℕ, zero, ◌+◌, ◌*◌, ◌/◌, ◌%◌, ◌<◌}
-use Rattle.std.proofs.Common.{sym, ap, ◌∙◌, mod_lt, arith, lit<}
+use Rattle.std.proofs.Common.{sym, ap, ◌∙◌, mod-lt, arith, lit<}
 use Rattle.std.proofs.Math.Arith.{mod-mul, digits_div, digits_mod}
 use Rattle.stored.specs.Forms.{four_bytes, eight_bytes}
 
@@ -8,8 +8,8 @@ use Rattle.stored.specs.Forms.{four_bytes, eight_bytes}
 peel : (c n k : ℕ) → zero < c → n % (256 * c) ≡ k % (256 * c) → (n / c % 256 ≡ k / c % 256) × (n % c ≡ k % c)
 peel c n k pos h =
     let split : (m : ℕ) → m % (256 * c) ≡ (m / c % 256) * c + m % c = λ m. mod-mul m (lit< tt) pos in
-    let high : (m : ℕ) → m % (256 * c) / c ≡ m / c % 256 = λ m. ap (λ v. v / c) (split m) ∙ digits_div (m / c % 256) (mod_lt m pos) in
-    let low : (m : ℕ) → m % (256 * c) % c ≡ m % c = λ m. ap (λ v. v % c) (split m) ∙ digits_mod (m / c % 256) (mod_lt m pos) in
+    let high : (m : ℕ) → m % (256 * c) / c ≡ m / c % 256 = λ m. ap (λ v. v / c) (split m) ∙ digits_div (m / c % 256) (mod-lt m pos) in
+    let low : (m : ℕ) → m % (256 * c) % c ≡ m % c = λ m. ap (λ v. v % c) (split m) ∙ digits_mod (m / c % 256) (mod-lt m pos) in
     (sym (high n) ∙ ap (λ v. v / c) h ∙ high k, sym (low n) ∙ ap (λ v. v % c) h ∙ low k)
 
 pub four_same : (n k : ℕ) → n % 4294967296 ≡ k % 4294967296 → four_bytes n ≡ four_bytes k
