@@ -1,18 +1,16 @@
 // The numbers of the shifts: thresholds, payloads, and a box's share.
-#![tactic(auto)]
-
 ghost use Rattle.std.specs.Prelude.{◌≡◌, cond, ◌+◌, ◌-◌, ◌%◌, ◌/◌, ◌^◌, ◌<◌};
 ghost use Rattle.key.specs.Rows.{is_one};
 ghost use Rattle.masking.specs.Masking.{size};
 ghost use Rattle.shares.specs.Words.{word};
 ghost use Rattle.shares.specs.Shifts.{low_payload, shift_rest, shift_share, signed_held, signed_share};
-ghost use Rattle.splitmath.specs.Elements.{step_of, word_mean};
+ghost use Rattle.gatemath.specs.Elements.{step_of, word_mean};
 
+use crate::splits::number_if;
 use gatekeys::Shift;
 use group::Word;
 use key::BoxNumber;
 use masking::Width;
-use splitmath::number_if;
 
 // S: how many numbers one step of the shift holds.
 fn step_size(shift: Shift) -> u64

@@ -35,7 +35,7 @@ pub fn flags_part(number: BoxNumber, all: u32, random: u64) -> u32
 }
 
 // A number if a test holds, otherwise 0.
-pub fn number_if(yes: bool, number: u64) -> u64
+pub(crate) fn number_if(yes: bool, number: u64) -> u64
     ensures { result ≡ cond yes number 0 }
 {
     if yes { number } else { 0 }

@@ -3,8 +3,8 @@ ghost use Rattle.std.specs.Prelude.{◌≡◌, get_or};
 ghost use Rattle.masking.specs.Masking.{size};
 ghost use Rattle.shares.specs.Words.{quad};
 ghost use Rattle.shares.specs.Piece.{piece_payload, piece_share_of};
-ghost use Rattle.splitmath.specs.Elements.{quad_mean};
-ghost use Rattle.piecemath.specs.Piece.{by_horner};
+ghost use Rattle.gatemath.specs.Elements.{quad_mean};
+ghost use Rattle.gatemath.specs.Piece.{by_horner};
 
 use group::{Pair, Quad, Word};
 use masking::Width;

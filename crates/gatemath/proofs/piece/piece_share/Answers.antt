@@ -4,7 +4,7 @@ use native.Mathlib.Omega.{arith}
 use Rattle.masking.specs.Masking.{size}
 use Rattle.shares.proofs.Words.{power_divides}
 use Rattle.shares.proofs.Piece.{share_by_horner, share_of_quad}
-use Rattle.piecemath.proofs.piece.piece_share.Goals as goal
+use Rattle.gatemath.proofs.piece.piece_share.Goals as goal
 
 pub returns : goal.returns
 returns c =

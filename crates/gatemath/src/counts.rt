@@ -1,6 +1,4 @@
 // The numbers of the interval rule: threshold, points, counts, and a box's part of an element.
-#![tactic(auto)]
-
 ghost use Rattle.std.specs.Prelude.{◌≡◌};
 ghost use Rattle.key.specs.Rows.{is_one};
 ghost use Rattle.masking.specs.Masking.{size};

@@ -1,7 +1,7 @@
 // A box's share of a flag gate.
 ghost use Rattle.std.specs.Prelude.{◌≡◌};
 ghost use Rattle.shares.specs.Flag.{flag_share};
-ghost use Rattle.splitmath.specs.Elements.{flag_mean};
+ghost use Rattle.gatemath.specs.Elements.{flag_mean};
 
 use group::Flags;
 
