@@ -2,9 +2,9 @@ use mathlib.Core.Path.{◌≡◌, refl, ap, ◌∙◌}
 use Prim.Native.Nat.{◌+◌, ◌-◌}
 use native.Mathlib.Omega.{arith}
 use lib.ListN.{length}
-use Rattle.bytes.specs.Forms.{put_at}
-use Rattle.bytes.proofs.Puts.{mid_is_put_at}
-use Rattle.bytes.proofs.put.Goals as goal
+use Rattle.buffers.specs.Forms.{put_at}
+use Rattle.buffers.proofs.Puts.{mid_is_put_at}
+use Rattle.buffers.proofs.put.Goals as goal
 
 pub returns : goal.returns
 returns c =

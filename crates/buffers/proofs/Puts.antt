@@ -6,7 +6,7 @@ use native.Mathlib.Omega.{arith}
 use lib.ListN.{length, take, drop, get_or, length-append, length-drop, length-take, take-append-drop}
 use lib.Seq.{take_at, drop_at, drop-drop, length-take-le}
 use borrow.Rule.Slice.PartMut.{put_mid}
-use Rattle.bytes.specs.Forms.{put_at, Put, Room}
+use Rattle.buffers.specs.Forms.{put_at, Put, Room}
 
 pub put_at_is : (out : List ℕ) (at : ℕ) (bs : List ℕ) → put_at out at bs ≡ take at out ++ (bs ++ drop (at + length bs) out)
 unfolding put_at

@@ -4,7 +4,7 @@
 ghost use Rattle.std.specs.Prelude.{◌≡◌, [], ◌∷◌, ◌+◌, ◌≤◌, length};
 ghost use Rattle.stored.specs.Forms.{four_bytes};
 ghost use Rattle.layout.specs.Bytes.{number_at};
-ghost use Rattle.bytes.specs.Forms.{Put, Room};
+ghost use Rattle.buffers.specs.Forms.{Put, Room};
 
 // Writes bytes from a place on, and gives the place after them.
 pub fn put(out: &mut [u8], at: usize, bytes: &[u8]) -> usize
