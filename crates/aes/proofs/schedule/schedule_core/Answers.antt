@@ -12,7 +12,7 @@ returns c =
     let small : k < 256 = omega arith in
     let h = bytes_of_join
     (bit_xor c.substituted.result k) c.substituted-2.result c.substituted-3.result c.substituted-4.result
-    (xor_lt 8 c.substituted.result k c.substituted.type-inv small) c.substituted-2.type-inv c.substituted-3.type-inv c.substituted-4.type-inv in
+    (xor_lt 8 c.substituted.result k c.substituted.type_inv small) c.substituted-2.type_inv c.substituted-3.type_inv c.substituted-4.type-inv in
     ap word_bytes c.from-be-bytes.ensures ∙ h ∙
     four_bytes _ _ _ _ _ _ _ _
     (ap (λ (x : ℕ). bit_xor x k) (c.substituted.ensures ∙ ap s_box c.second-byte.ensures))
