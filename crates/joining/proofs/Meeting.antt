@@ -1,7 +1,7 @@
 -- The two boxes' answers join to the payload below the threshold, and to zero elsewhere.
 use Rattle.std.proofs.Common.{◌≡◌, ℕ, zero, suc, ◌^◌, ◌<◌, Bool, true, false, cond, not, ltb, List, [], ◌∷◌, length, sym, refl, ap, ◌∙◌, subst, arith}
-use lib.Lanes.{zip2}
-use lib.Bits.{bit_xor, xor_assoc, xor_comm, xor_self, xor_zero_l, xor_zero_r}
+use Rattle.std.specs.Simd.Lanes.{zip2}
+use Rattle.std.specs.Int.Bits.{bit_xor, xor_assoc, xor_comm, xor_self, xor_zero_l, xor_zero_r}
 use Rattle.group.specs.Groups.{OutputGroup, minus}
 use Rattle.expander.specs.Meaning.{Expansion}
 use Rattle.expander.specs.Seeds.{xor_seeds}
