@@ -11,7 +11,7 @@ returns-then-not-is-hex c =
 
 pub loop-b-preserved : goal.loop-b-preserved
 loop-b-preserved c =
-    sym (hexes_step c.args.word.now c.loop-b.b-index (omega arith) (sym c.if-not-is-hex.ensures)) ∙ c.loop-b.invariant
+    sym (hexes_step c.args.word.now c.loop-b.b-index (omega arith) (sym c.if-not-is_hex.ensures)) ∙ c.loop-b.invariant
 
 pub returns : goal.returns
 returns c = sym (sym c.loop-b.invariant ∙ at_drop_all hexes c.args.word.now c.loop-b.b-index (omega arith))

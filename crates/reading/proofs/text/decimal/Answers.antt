@@ -20,7 +20,7 @@ returns c =
     let w = c.args.word.now in
     let most = c.args.most in
     record {
-      is = c.at-most.ensures.is ∙ ap (bounded most) c.value-of.ensures ∙ bounded_cut most (value w)
-          ∙ sym (cond-true (numeral w) (bounded most (value w)) (Err NotNumber) (sym c.if-not-is-numeral.ensures));
-      small = c.at-most.ensures.small;
+      is = c.at_most.ensures.is ∙ ap (bounded most) c.value_of.ensures ∙ bounded_cut most (value w)
+          ∙ sym (cond-true (numeral w) (bounded most (value w)) (Err NotNumber) (sym c.if-not-is_numeral.ensures));
+      small = c.at_most.ensures.small;
     }

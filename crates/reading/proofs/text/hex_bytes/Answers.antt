@@ -14,7 +14,7 @@ loop-i-preserved c = (
   length-set c.loop-i.bytes c.loop-i.i _ ∙ c.loop-i.invariant.0,
   below_more _ _
       (λ k h. let ne : k ≢ c.loop-i.i = omega arith in rw get_or-set_other (c.loop-i.invariant.1 k h))
-      (let lt : c.loop-i.i < length c.loop-i.bytes = omega arith in rw (get_or-set_same, c.hex-value.ensures.is, c.hex-value-in-loop-i.ensures.is)),
+      (let lt : c.loop-i.i < length c.loop-i.bytes = omega arith in rw (get_or-set_same, c.hex_value.ensures.is, c.hex_value-in-loop-i.ensures.is)),
 )
 
 pub returns : goal.returns

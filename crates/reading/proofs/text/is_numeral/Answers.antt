@@ -13,7 +13,7 @@ returns-then-not-is-digit c =
 
 pub loop-b-preserved : goal.loop-b-preserved
 loop-b-preserved c =
-    sym (digits_step c.args.word.now c.loop-b.b-index (omega arith) (sym c.if-not-is-digit.ensures)) ∙ c.loop-b.invariant
+    sym (digits_step c.args.word.now c.loop-b.b-index (omega arith) (sym c.if-not-is_digit.ensures)) ∙ c.loop-b.invariant
 
 pub returns : goal.returns
 returns c =

@@ -18,7 +18,7 @@ unfolding seed_from
 returns c =
     let w = c.args.word.now in
     record {
-      is = rw (eq-eqb (length w) 32 c.if-word-ne32.false, sym c.if-not-all-hex.ensures)
-          (ap (λ bs. Ok (record { bytes = bs })) c.hex-bytes.ensures);
-      bytes = λ i h. ap (λ bs. get_or bs i 0) c.hex-bytes.ensures ∙ hex_bytes_at w i (omega arith);
+      is = rw (eq-eqb (length w) 32 c.if-word-ne32.false, sym c.if-not-all_hex.ensures)
+          (ap (λ bs. Ok (record { bytes = bs })) c.hex_bytes.ensures);
+      bytes = λ i h. ap (λ bs. get_or bs i 0) c.hex_bytes.ensures ∙ hex_bytes_at w i (omega arith);
     }
