@@ -5,12 +5,12 @@ use Rattle.reading.specs.Text.{decimal_of, bounded, numeral, value}
 use Rattle.reading.proofs.Numbers.{bounded_cut}
 use Rattle.reading.proofs.text.decimal.Goals as goal
 
-pub returns-then-not-is-numeral : goal.returns-then-not-is-numeral
+pub returns-then-not-is_numeral : goal.returns-then-not-is_numeral
 unfolding decimal_of
-returns-then-not-is-numeral c =
+returns-then-not-is_numeral c =
     let w = c.args.word.now in
     record {
-      is = sym (cond-false (numeral w) (bounded c.args.most (value w)) (Err NotNumber) (sym c.if-not-is-numeral.ensures));
+      is = sym (cond-false (numeral w) (bounded c.args.most (value w)) (Err NotNumber) (sym c.if-not-is_numeral.ensures));
       small = tt;
     }
 

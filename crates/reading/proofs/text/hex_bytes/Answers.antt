@@ -3,11 +3,11 @@ use Rattle.std.proofs.lemmas.List.{ext_get_or}
 use Rattle.reading.proofs.Numbers.{hex_at, length_hex_bytes, hex_bytes_at}
 use Rattle.reading.proofs.text.hex_bytes.Goals as goal
 
-pub hex-value-requires : goal.hex-value-requires
-hex-value-requires c = hex_at c.args.word.now (2 * c.loop-i.i) c.requires.1 (omega arith)
+pub hex_value-requires : goal.hex_value-requires
+hex_value-requires c = hex_at c.args.word.now (2 * c.loop-i.i) c.requires.1 (omega arith)
 
-pub hex-value-requires-in-loop-i : goal.hex-value-requires-in-loop-i
-hex-value-requires-in-loop-i c = hex_at c.args.word.now (2 * c.loop-i.i + 1) c.requires.1 (omega arith)
+pub hex_value-requires-in-loop-i : goal.hex_value-requires-in-loop-i
+hex_value-requires-in-loop-i c = hex_at c.args.word.now (2 * c.loop-i.i + 1) c.requires.1 (omega arith)
 
 pub loop-i-preserved : goal.loop-i-preserved
 loop-i-preserved c = (
