@@ -1,4 +1,2 @@
 pub mod Sixteen
-pub mod Rows
-pub mod Bytes
 pub mod Pasted

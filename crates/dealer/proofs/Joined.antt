@@ -1,7 +1,7 @@
 -- Parts that a loop writes one after another.
 use Rattle.std.proofs.Common.{◌≡◌, ℕ, zero, suc, ◌+◌, ◌<◌, ◌≤◌, ◌⊎◌, List, [], ◌++◌, length, sym, refl, ap, ◌∙◌, inl, inr, add-one, arith, length-append}
-use Rattle.bytes.specs.Forms.{Put, Room}
-use Rattle.bytes.proofs.Puts.{then, put_as, put_long}
+use Rattle.buffers.specs.Forms.{Put, Room}
+use Rattle.buffers.proofs.Puts.{then, put_as, put_long}
 use Rattle.std.proofs.lemmas.Bool.{cases_eq}
 use Rattle.layout.specs.Bytes.{joined}
 

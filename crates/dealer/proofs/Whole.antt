@@ -10,8 +10,8 @@ use Rattle.plan.specs.Plans.{wires}
 use Rattle.plan.specs.Questions.{plan_asks}
 use Rattle.layout.specs.Bytes.{joined}
 use Rattle.layout.specs.Books.{header_bytes, entry_bytes}
-use Rattle.bytes.specs.Forms.{Put}
-use Rattle.bytes.proofs.Puts.{put_at_start}
+use Rattle.buffers.specs.Forms.{Put}
+use Rattle.buffers.proofs.Puts.{put_at_start}
 use Rattle.dealer.specs.Lengths.{place, entry}
 use Rattle.dealer.specs.Book.{Order, header, header_of, dealt_body, dealt_length, dealt_book, deal_asks, written, dealt}
 use Rattle.dealer.proofs.Accepted.{passed, more_asked, no_more}

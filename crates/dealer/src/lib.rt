@@ -8,12 +8,12 @@ ghost use Rattle.plan.specs.Questions.{fields_fit};
 ghost use Rattle.layout.specs.Bytes.{joined};
 ghost use Rattle.layout.specs.Wires.{input, wire_bytes};
 ghost use Rattle.layout.specs.Books.{header_bytes};
-ghost use Rattle.bytes.specs.Forms.{Put, Room};
+ghost use Rattle.buffers.specs.Forms.{Put, Room};
 ghost use Rattle.masks.specs.Masks.{masks as masks-of};
 ghost use Rattle.dealer.specs.Lengths.{Allowed, rest_length, body_length, place, entry};
 ghost use Rattle.dealer.specs.Book.{order, when, header_of, dealt_body, dealt};
 
-use bytes::{put, put_byte, put_number};
+use buffers::{put, put_byte, put_number};
 use expander::Expander;
 use gatebytes::{put_gate, put_two};
 use key::BoxNumber;

@@ -12,8 +12,8 @@ use Rattle.plan.specs.declared.GateBody.{GateBody}
 use Rattle.plan.specs.declared.GateBody.TheVariants.{Sum, Scale, Product, Piece, Flag, Shift, SignedShift, Xor}
 use Rattle.layout.specs.Bytes.{front}
 use Rattle.layout.specs.Wires.{gate, wire_bytes, gate_key_bytes, mask_bytes, given}
-use Rattle.bytes.specs.Forms.{Put, Room}
-use Rattle.bytes.proofs.Puts.{put_as, put_none}
+use Rattle.buffers.specs.Forms.{Put, Room}
+use Rattle.buffers.proofs.Puts.{put_as, put_none}
 use Rattle.gatebytes.specs.Dealt.{dealt_gate}
 use Rattle.gatebytes.specs.Heads.{before_key}
 use Rattle.gatebytes.specs.Keyed.{interval_key_bytes, shift_key_bytes, piece_bytes, flag_gate_bytes, shift_gate_bytes}

@@ -10,13 +10,13 @@ ghost use Rattle.gatekeys.specs.Parameters.{interval_view, shift_view};
 ghost use Rattle.gates.specs.Product.{dealt_product};
 ghost use Rattle.layout.specs.Bytes.{front};
 ghost use Rattle.layout.specs.Wires.{gate, wire_bytes, gate_key_bytes};
-ghost use Rattle.bytes.specs.Forms.{Put, Room};
+ghost use Rattle.buffers.specs.Forms.{Put, Room};
 ghost use Rattle.gatebytes.specs.Dealt.{dealt_gate};
 ghost use Rattle.gatebytes.specs.Heads.{head_bytes, before_key};
 ghost use Rattle.gatebytes.specs.Keyed.{interval_key_bytes, shift_key_bytes, parts_bytes};
 ghost use Rattle.gatebytes.specs.Keyed.{piece_bytes, flag_gate_bytes, shift_gate_bytes};
 
-use bytes::{put, put_byte, put_number};
+use buffers::{put, put_byte, put_number};
 use expander::{Expander, Seed};
 use gatekeys::{Interval, Shift};
 use gates::{Fresh, IntervalKey, ShiftKey, deal_flag, deal_piece, deal_product, deal_shift};

@@ -1,10 +1,18 @@
-// The arithmetic of the gates, without keys: each function is one definition of the rules. The functions stand in four
-// crates below, and here under one name.
+// The arithmetic of the gates, without keys: each function is one definition of the rules.
 #![tactic(auto)]
 
-pub use intervalmath::{after_end, extra_for, once, once_less, part_of, point_for, threshold_for};
-pub use piecemath::{flag_share, payload_for, piece_share, quad_of};
-pub use shiftmath::{
+mod counts;
+mod flag;
+mod piece;
+mod product;
+mod shift;
+mod splits;
+
+pub use counts::{after_end, extra_for, once, once_less, part_of, point_for, threshold_for};
+pub use flag::flag_share;
+pub use piece::{payload_for, piece_share, quad_of};
+pub use product::product_share;
+pub use shift::{
     low_bits, low_key_payload, rest_for, shift_share, signed_point, signed_share, step_count,
 };
-pub use splitmath::{flags_part, low_half, number_part, product_share};
+pub use splits::{flags_part, low_half, number_part};

@@ -5,4 +5,3 @@ pub mod Piece
 pub mod Flag
 pub mod Product
 pub mod Shift
-pub mod Reads

@@ -1,7 +1,7 @@
 -- Remainders below twice the divisor, and tests as counts, each as the cases that omega takes.
 use Rattle.std.proofs.Common.{◌≡◌, ℕ, ◌+◌, ◌-◌, ◌%◌, ◌<◌, ◌≤◌, eqb, ltb, leb, ◌⊎◌, ap, ◌∙◌, inl, inr, mod-eq_of_lt, arith}
 use native.Mathlib.Nat.{add-mod_right}
-use Rattle.std.proofs.lemmas.Bool.{lt-ltb, le-ltb, cases_lt, le-leb, lt-leb, eq-eqb, ne_eqb, cases_eq, and-left, and_right, and_from}
+use Rattle.std.proofs.lemmas.Bool.{lt-ltb, le-ltb, cases_lt, le-leb, lt-leb, eq-eqb, ne_eqb, cases_eq, and_left, and_right, and_from}
 use Rattle.interval.specs.Interval.{bit, inside}
 
 -- a remainder of what is below twice the divisor
@@ -32,7 +32,7 @@ tell_le a b = elim (cases_lt b a) [ inl h ↦ inr (h, ap bit (lt-leb a b h)) | i
 pub tell_inside : (p q v : ℕ)
     → ((p ≤ v) × (v ≤ q) × (bit (inside p q v) ≡ 1)) ⊎ (((v < p) × (bit (inside p q v) ≡ 0)) ⊎ ((q < v) × (bit (inside p q v) ≡ 0)))
 tell_inside p q v = elim (cases_lt v p) [
-  | inl h ↦ inr (inl (h, ap bit (and-left (leb p v) (leb v q) (lt-leb p v h))))
+  | inl h ↦ inr (inl (h, ap bit (and_left (leb p v) (leb v q) (lt-leb p v h))))
   | inr h ↦ elim (cases_lt q v) [
     | inl k ↦ inr (inr (k, ap bit (and_right (leb p v) (leb v q) (lt-leb v q k))))
     | inr k ↦ inl (h, k, ap bit (and_from (leb p v) (leb v q) (le-leb p v h) (le-leb v q k)))

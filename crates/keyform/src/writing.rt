@@ -1,9 +1,9 @@
 // Writing a comparison key: its root, its rows one after another, its final element.
 ghost use Rattle.std.specs.Prelude.{◌≡◌};
-ghost use Rattle.bytes.specs.Forms.{Put, Room};
+ghost use Rattle.buffers.specs.Forms.{Put, Room};
 ghost use Rattle.layout.specs.Keys.{row_bytes, rows_bytes, key_bytes, seed_bytes, bits};
 
-use bytes::{put, put_byte};
+use buffers::{put, put_byte};
 use expander::Seed;
 use group::Group;
 use key::Row;

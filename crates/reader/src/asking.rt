@@ -8,7 +8,7 @@ ghost use Rattle.reader.specs.Questions.{entry_fits, gapless, reads_in, wire_fit
 
 use crate::reading::{body_in, is_flag};
 use bodies::{GateHead, byte_in, gate_fits, head_in, input_fits};
-use bytes::number_at;
+use buffers::number_at;
 use refusal::Refusal;
 
 fn lower_number(book: &[u8], k: usize, wire: u8) -> bool

@@ -4,7 +4,7 @@ ghost use Rattle.reader.specs.Reading.{header_in, headed, body_in, flag_kind, fl
 
 use crate::BookHeader;
 use bodies::{WireBody, byte_in, gate_in, input_in, number_in, part_of};
-use bytes::number_at;
+use buffers::number_at;
 
 pub fn header_in(book: &[u8]) -> BookHeader
     ensures { headed result ≡ header_in book.now }

@@ -1,7 +1,7 @@
 // Runs the orders on its input; stdin and stdout are tables that tests/vectors.py makes by an independent calculation.
 #![tactic(auto)]
 
-use office::run;
+use console::run;
 use std::io;
 
 fn main(rt: HostRuntime) -> io::Result<()> {

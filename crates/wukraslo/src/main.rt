@@ -1,12 +1,7 @@
 // The program: carries out the orders on its input, or without input a built-in example.
 #![tactic(auto)]
 
-use console::Session;
-use office::run;
-
-mod plans;
-
-use plans::plans;
+use console::{Session, run};
 
 const ROOTS: &str = "000102030405060708090a0b0c0d0e0f 101112131415161718191a1b1c1d1e1f";
 
@@ -135,8 +130,7 @@ fn gates(rt: &HostRuntime) -> anyhow::Result<()> {
 
 fn run_example(rt: &HostRuntime) -> anyhow::Result<()> {
     example(rt)?;
-    gates(rt)?;
-    plans(rt)
+    gates(rt)
 }
 
 fn main(rt: HostRuntime) -> anyhow::Result<()> {

@@ -3,7 +3,7 @@ use Rattle.std.proofs.lemmas.Result.{err_from_is_err_and}
 use Rattle.std.proofs.lemmas.Bool.Decides.{nat_tests}
 use Rattle.plan.specs.Plans.{planned, wires}
 use Rattle.layout.specs.Books.{header_bytes}
-use Rattle.bytes.proofs.Puts.{then, put_as, put_long}
+use Rattle.buffers.proofs.Puts.{then, put_as, put_long}
 use Rattle.dealer.specs.Book.{order, header_of}
 use Rattle.dealer.proofs.Accepted.{allowed, asked_yes, asked_no}
 use Rattle.dealer.proofs.Longs.{bodies_long, contents_long}

@@ -1,6 +1,6 @@
 use Rattle.std.proofs.Common.{◌≡◌, refl, arith}
 use Rattle.plan.specs.Plans.{planned}
-use Rattle.bytes.proofs.Puts.{put_none}
+use Rattle.buffers.proofs.Puts.{put_none}
 use Rattle.masks.proofs.Tables.{words_more}
 use Rattle.dealer.specs.Book.{order, dealt_body}
 use Rattle.dealer.proofs.Joined.{joined_step, joined_room}

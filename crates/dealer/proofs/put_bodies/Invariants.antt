@@ -1,6 +1,6 @@
 use Rattle.std.proofs.Common.{◌≡◌, ◌*◌, ◌≤◌}
 use Rattle.plan.specs.Plans.{planned, words_before}
-use Rattle.bytes.specs.Forms.{Put}
+use Rattle.buffers.specs.Forms.{Put}
 use Rattle.layout.specs.Bytes.{joined}
 use Rattle.dealer.specs.Book.{order, dealt_body}
 use Rattle.dealer.proofs.put_bodies.Given as goal

@@ -1,7 +1,7 @@
 use Rattle.std.proofs.Common.{◌≡◌, ◌+◌, ◌≤◌, ◌++◌, sym, refl, ap, arith, rules}
 use Rattle.stored.specs.Forms.{four_bytes}
 use Rattle.plan.specs.Plans.{planned}
-use Rattle.bytes.proofs.Puts.{put_as, room_as, put_none}
+use Rattle.buffers.proofs.Puts.{put_as, room_as, put_none}
 use Rattle.dealer.specs.Lengths.{entry}
 use Rattle.dealer.proofs.Joined.{joined_step, joined_room}
 use Rattle.dealer.proofs.Shorts.{lengths_more, lengths_short}

@@ -1,6 +1,6 @@
 use Rattle.std.proofs.Common.{◌≡◌}
 use Rattle.plan.specs.Plans.{planned}
-use Rattle.bytes.specs.Forms.{Put}
+use Rattle.buffers.specs.Forms.{Put}
 use Rattle.layout.specs.Bytes.{joined}
 use Rattle.dealer.specs.Lengths.{entry, place}
 use Rattle.dealer.proofs.put_contents.Given as goal

@@ -1,6 +1,6 @@
 use Rattle.std.proofs.Common.{◌≡◌, sym, ap}
 use Rattle.layout.specs.Wires.{input, wire_bytes}
-use Rattle.bytes.proofs.Puts.{then, put_as}
+use Rattle.buffers.proofs.Puts.{then, put_as}
 use Rattle.dealer.proofs.put_input.Goals as goal
 
 pub returns-in-Some : goal.returns-in-Some

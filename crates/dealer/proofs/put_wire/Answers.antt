@@ -1,7 +1,7 @@
 use Rattle.std.proofs.Common.{◌≡◌, ◌-◌, length, sym, refl, ap, ◌∙◌}
 use Rattle.plan.specs.Plans.{planned, row_at}
 use Rattle.plan.specs.Questions.{fields_fit}
-use Rattle.bytes.proofs.Puts.{put_as, room_as}
+use Rattle.buffers.proofs.Puts.{put_as, room_as}
 use Rattle.dealer.proofs.Shorts.{fields_at}
 use Rattle.dealer.proofs.Wires.{input_is, gate_is}
 use Rattle.dealer.proofs.put_wire.Goals as goal

@@ -1,7 +1,7 @@
 use Rattle.std.proofs.Common.{◌≡◌, ℕ, ◌≤◌, length, sym, ap, ◌∙◌, arith, rules}
 use Rattle.gatemath.specs.Elements.{flag_mean}
 use Rattle.layout.specs.Keys.{flag_bytes}
-use Rattle.bytes.proofs.Puts.{put_as, room_as}
+use Rattle.buffers.proofs.Puts.{put_as, room_as}
 use Rattle.keyform.specs.Forms.{flag_form}
 use Rattle.keyform.proofs.Meanings.{flag_means}
 use Rattle.gatebytes.proofs.Asked.{unsaid, rows_yes, cut_long}

@@ -2,7 +2,7 @@ use Rattle.std.proofs.Common.{◌≡◌, drop, sym}
 use Rattle.layout.specs.Bytes.{front}
 use Rattle.key.specs.Rows.{is_one}
 use Rattle.plan.specs.Plans.{words_of}
-use Rattle.bytes.proofs.Puts.{then, put_as, room_as, room_first, room_next}
+use Rattle.buffers.proofs.Puts.{then, put_as, room_as, room_first, room_next}
 use Rattle.gatebytes.specs.Heads.{before_key}
 use Rattle.gatebytes.proofs.Bodies.{body_is}
 use Rattle.gatebytes.proofs.put_gate.Goals as goal

@@ -1,6 +1,6 @@
 use Rattle.std.proofs.Common.{◌≡◌, [], sym, ap, ◌∙◌, inl, inr}
 use Rattle.plan.specs.Questions.{fields_fit, interval_fits, all_below}
-use Rattle.bytes.proofs.Puts.{put_as, room_as}
+use Rattle.buffers.proofs.Puts.{put_as, room_as}
 use Rattle.gatebytes.proofs.Bodies.{keyed, no_key, piece_is, flag_is, shift_is, signed_is, and_left}
 use Rattle.gatebytes.proofs.put_gate_key.Goals as goal
 

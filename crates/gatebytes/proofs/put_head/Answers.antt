@@ -1,5 +1,5 @@
 use Rattle.std.proofs.Common.{◌≡◌, [], ◌∷◌, ◌++◌, Option, sym, ap}
-use Rattle.bytes.proofs.Puts.{then, put_as}
+use Rattle.buffers.proofs.Puts.{then, put_as}
 use Rattle.gatebytes.specs.Heads.{head_bytes}
 use Rattle.gatebytes.proofs.put_head.Goals as goal
 

@@ -1,7 +1,7 @@
 use Rattle.std.proofs.Common.{◌≡◌, ◌++◌, sym, ap, arith}
 use Rattle.stored.specs.Forms.{four_bytes}
 use Rattle.layout.specs.Keys.{key_bytes}
-use Rattle.bytes.proofs.Puts.{then, put_as, room_first_as, room_next}
+use Rattle.buffers.proofs.Puts.{then, put_as, room_first_as, room_next}
 use Rattle.gatebytes.specs.Keyed.{interval_key_bytes}
 use Rattle.gatebytes.proofs.put_interval_key.Goals as goal
 

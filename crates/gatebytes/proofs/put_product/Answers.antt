@@ -1,6 +1,6 @@
 use Rattle.std.proofs.Common.{◌≡◌, ◌++◌, ap, ◌∙◌}
 use Rattle.stored.specs.Forms.{four_bytes}
-use Rattle.bytes.proofs.Puts.{then, put_as}
+use Rattle.buffers.proofs.Puts.{then, put_as}
 use Rattle.gatebytes.proofs.put_product.Goals as goal
 
 pub returns : goal.returns

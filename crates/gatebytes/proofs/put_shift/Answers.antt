@@ -1,7 +1,7 @@
 use Rattle.std.proofs.Common.{◌≡◌, sym, ap, ◌∙◌, arith}
 use Rattle.gatemath.specs.Elements.{word_mean}
 use Rattle.layout.specs.Keys.{word_bytes}
-use Rattle.bytes.proofs.Puts.{put_as, room_as}
+use Rattle.buffers.proofs.Puts.{put_as, room_as}
 use Rattle.keyform.specs.Forms.{word_form}
 use Rattle.keyform.proofs.Meanings.{word_means}
 use Rattle.gatebytes.proofs.Asked.{unsaid, shift_rows_yes, cut_long}

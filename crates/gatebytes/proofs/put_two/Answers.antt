@@ -1,4 +1,4 @@
-use Rattle.bytes.proofs.Puts.{then}
+use Rattle.buffers.proofs.Puts.{then}
 use Rattle.gatebytes.proofs.put_two.Goals as goal
 
 pub returns : goal.returns

@@ -1,6 +1,6 @@
 use Rattle.std.proofs.Common.{◌≡◌, ◌+◌, ◌-◌, length, ap, ◌∙◌, arith, rules}
-use Rattle.bytes.specs.Forms.{put_at}
-use Rattle.bytes.proofs.Puts.{mid_is_put_at}
+use Rattle.buffers.specs.Forms.{put_at}
+use Rattle.buffers.proofs.Puts.{mid_is_put_at}
 use Rattle.keyform.proofs.writing.put_element.Goals as goal
 
 pub overflow-add-end : goal.overflow-add-end

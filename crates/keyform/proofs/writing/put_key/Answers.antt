@@ -1,4 +1,4 @@
-use Rattle.bytes.proofs.Puts.{then, room_first, room_next}
+use Rattle.buffers.proofs.Puts.{then, room_first, room_next}
 use Rattle.layout.specs.Keys.{rows_bytes, seed_bytes}
 use Rattle.keyform.proofs.writing.put_key.Goals as goal
 

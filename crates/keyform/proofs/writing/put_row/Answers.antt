@@ -1,5 +1,5 @@
 use Rattle.std.proofs.Common.{[], ◌∷◌, ap, arith}
-use Rattle.bytes.proofs.Puts.{then, put_as, room_first, room_next}
+use Rattle.buffers.proofs.Puts.{then, put_as, room_first, room_next}
 use Rattle.layout.specs.Keys.{bits, seed_bytes}
 use Rattle.keyform.proofs.writing.put_row.Goals as goal
 

@@ -1,5 +1,5 @@
 use Rattle.std.proofs.Common.{drop}
-use Rattle.bytes.proofs.Puts.{Owes}
+use Rattle.buffers.proofs.Puts.{Owes}
 use Rattle.layout.specs.Keys.{rows_bytes}
 use Rattle.keyform.proofs.writing.put_rows.Given as goal
 

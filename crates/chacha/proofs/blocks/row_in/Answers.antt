@@ -1,7 +1,0 @@
-use Rattle.std.proofs.Common.{w8}
-use Rattle.std.proofs.lemmas.Simd.{below_from_Fits}
-use Rattle.chacha.proofs.Bytes.{row_read}
-use Rattle.chacha.proofs.blocks.row_in.Goals as goal
-
-pub returns : goal.returns
-returns c = row_read c.args.bytes c.fits-bytes.0 (below_from_Fits w8 c.args.bytes c.fits-bytes.1)

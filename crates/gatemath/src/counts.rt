@@ -1,0 +1,81 @@
+// The numbers of the interval rule: threshold, points, counts, and a box's part of an element.
+ghost use Rattle.std.specs.Prelude.{◌≡◌};
+ghost use Rattle.key.specs.Rows.{is_one};
+ghost use Rattle.masking.specs.Masking.{size};
+ghost use Rattle.interval.specs.Interval.{threshold, point, after, masked, taken, net, extra};
+ghost use Rattle.shares.specs.Splits.{part_of_element};
+
+use gatekeys::Interval;
+use group::{Group, difference};
+use key::BoxNumber;
+use masking::Width;
+
+// The comparison key's threshold for a mask.
+pub fn threshold_for(width: Width, mask: u32) -> u32
+    ensures { result ≡ threshold (size width) mask }
+{
+    width.reduce(mask as u64 + (width.size() - 1))
+}
+
+// Where the key is asked about an end.
+pub fn point_for(width: Width, m: u32, end: u32) -> u32
+    ensures { result ≡ point (size width) m end }
+{
+    width.reduce(m as u64 + (width.size() - 1).saturating_sub(end as u64))
+}
+
+// The number after an end; after the last one it is 0.
+pub fn after_end(width: Width, end: u32) -> u32
+    ensures { result ≡ after (size width) end }
+{
+    width.reduce(end as u64 + 1)
+}
+
+fn with_mask(width: Width, mask: u32, end: u32) -> u32
+    ensures { result ≡ masked (size width) mask end }
+{
+    width.reduce(end as u64 + mask as u64)
+}
+
+// An element once, or not at all.
+pub fn once<G: Group>(yes: bool, element: G) -> G
+    ensures { G.Group.mean result ≡ taken G.Group.group yes (G.Group.mean element) }
+{
+    if yes { element } else { G::zero() }
+}
+
+// An element once, less once.
+pub fn once_less<G: Group>(yes: bool, less: bool, element: G) -> G
+    ensures { G.Group.mean result ≡ net G.Group.group yes less (G.Group.mean element) }
+{
+    difference(once(yes, element), once(less, element))
+}
+
+// E: how often the payload is added for numbers that wrap.
+pub fn extra_for<G: Group>(interval: Interval, mask: u32, payload: G) -> G
+    ensures { G.Group.mean result
+        ≡ extra G.Group.group (size interval.width) mask interval.low interval.high (G.Group.mean payload) }
+{
+    let width = interval.width();
+    let low = interval.low();
+    let from = with_mask(width, mask, low);
+    let to = with_mask(width, mask, interval.high());
+    let next = after_end(width, interval.high());
+    let past = with_mask(width, mask, next);
+    let wraps = once_less(to < from, low < from, payload);
+    let ends = to as u64 == width.size() - 1;
+    wraps
+        .add(once(next < past, payload))
+        .add(once(ends, payload))
+}
+
+// A box's part of an element: box 1 has what is random, box 0 the difference.
+pub fn part_of<G: Group>(number: BoxNumber, all: G, random: G) -> G
+    ensures { G.Group.mean result ≡ part_of_element G.Group.group (is_one number) (G.Group.mean all) (G.Group.mean random) }
+{
+    if number.is_one() {
+        random
+    } else {
+        difference(all, random)
+    }
+}
