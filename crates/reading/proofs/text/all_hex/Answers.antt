@@ -4,14 +4,14 @@ use Rattle.reading.specs.Text.{hexes}
 use Rattle.reading.proofs.Numbers.{hexes_step, hexes_stop}
 use Rattle.reading.proofs.text.all_hex.Goals as goal
 
-pub returns-then-not-is-hex : goal.returns-then-not-is-hex
-returns-then-not-is-hex c =
+pub returns-then-not-is_hex : goal.returns-then-not-is_hex
+returns-then-not-is_hex c =
     let w = c.args.word.now in
-    sym (sym c.loop-b.invariant ∙ hexes_stop w c.loop-b.b-index (omega arith) (sym c.if-not-is-hex.ensures))
+    sym (sym c.loop-b.invariant ∙ hexes_stop w c.loop-b.b-index (omega arith) (sym c.if-not-is_hex.ensures))
 
 pub loop-b-preserved : goal.loop-b-preserved
 loop-b-preserved c =
-    sym (hexes_step c.args.word.now c.loop-b.b-index (omega arith) (sym c.if-not-is-hex.ensures)) ∙ c.loop-b.invariant
+    sym (hexes_step c.args.word.now c.loop-b.b-index (omega arith) (sym c.if-not-is_hex.ensures)) ∙ c.loop-b.invariant
 
 pub returns : goal.returns
 returns c = sym (sym c.loop-b.invariant ∙ at_drop_all hexes c.args.word.now c.loop-b.b-index (omega arith))

@@ -5,12 +5,12 @@ use Rattle.reading.specs.Text.{decimal_of, bounded, numeral, value}
 use Rattle.reading.proofs.Numbers.{bounded_cut}
 use Rattle.reading.proofs.text.decimal.Goals as goal
 
-pub returns-then-not-is-numeral : goal.returns-then-not-is-numeral
+pub returns-then-not-is_numeral : goal.returns-then-not-is_numeral
 unfolding decimal_of
-returns-then-not-is-numeral c =
+returns-then-not-is_numeral c =
     let w = c.args.word.now in
     record {
-      is = sym (cond-false (numeral w) (bounded c.args.most (value w)) (Err NotNumber) (sym c.if-not-is-numeral.ensures));
+      is = sym (cond-false (numeral w) (bounded c.args.most (value w)) (Err NotNumber) (sym c.if-not-is_numeral.ensures));
       small = tt;
     }
 
@@ -20,7 +20,7 @@ returns c =
     let w = c.args.word.now in
     let most = c.args.most in
     record {
-      is = c.at-most.ensures.is ∙ ap (bounded most) c.value-of.ensures ∙ bounded_cut most (value w)
-          ∙ sym (cond-true (numeral w) (bounded most (value w)) (Err NotNumber) (sym c.if-not-is-numeral.ensures));
-      small = c.at-most.ensures.small;
+      is = c.at_most.ensures.is ∙ ap (bounded most) c.value_of.ensures ∙ bounded_cut most (value w)
+          ∙ sym (cond-true (numeral w) (bounded most (value w)) (Err NotNumber) (sym c.if-not-is_numeral.ensures));
+      small = c.at_most.ensures.small;
     }

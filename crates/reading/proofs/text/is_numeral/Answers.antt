@@ -5,15 +5,15 @@ use Rattle.reading.specs.Text.{digits}
 use Rattle.reading.proofs.Numbers.{digits_step, digits_stop, and_true}
 use Rattle.reading.proofs.text.is_numeral.Goals as goal
 
-pub returns-then-not-is-digit : goal.returns-then-not-is-digit
-returns-then-not-is-digit c =
+pub returns-then-not-is_digit : goal.returns-then-not-is_digit
+returns-then-not-is_digit c =
     let w = c.args.word.now in
-    let stop = digits_stop w c.loop-b.b-index (omega arith) (sym c.if-not-is-digit.ensures) in
+    let stop = digits_stop w c.loop-b.b-index (omega arith) (sym c.if-not-is_digit.ensures) in
     sym (and_right (ltb 0 (length w)) (digits w) (sym c.loop-b.invariant ∙ stop))
 
 pub loop-b-preserved : goal.loop-b-preserved
 loop-b-preserved c =
-    sym (digits_step c.args.word.now c.loop-b.b-index (omega arith) (sym c.if-not-is-digit.ensures)) ∙ c.loop-b.invariant
+    sym (digits_step c.args.word.now c.loop-b.b-index (omega arith) (sym c.if-not-is_digit.ensures)) ∙ c.loop-b.invariant
 
 pub returns : goal.returns
 returns c =

@@ -4,8 +4,8 @@ use Rattle.reading.specs.Text.{value}
 use Rattle.reading.proofs.Numbers.{digit_at, digit_range, value_more}
 use Rattle.reading.proofs.text.value_of.Goals as goal
 
-pub overflow-sub-b : goal.overflow-sub-b
-overflow-sub-b c =
+pub overflow_sub-b : goal.overflow_sub-b
+overflow_sub-b c =
     let w = c.args.word.now in
     let i = c.loop-b.b-index in
     omega (arith, digit_range (get_or w i 0) (digit_at w i c.requires.0 (omega arith)))
