@@ -1,5 +1,5 @@
 -- Equations of sums, inverses and multiples in any commutative group, by counting each variable.
-use Rattle.std.proofs.Common.{◌≡◌, ℕ, zero, suc, ◌+◌, ◌*◌, List, [], ◌∷◌, sym, refl, ap, ◌∙◌, mul-zero}
+use Rattle.std.proofs.Common.{◌≡◌, ℕ, zero, suc, ◌+◌, ◌*◌, List, [], ◌∷◌, sym, refl, ap, ◌∙◌}
 use Rattle.group.specs.Groups.{GroupLaws}
 use Rattle.algebra.proofs.Multiples.{neutral_r, inter, cancel_left, drop_left, times, times_none, times_add, times_sum, times_times}
 

@@ -1,6 +1,6 @@
 -- Equations of sums and products modulo N: a linear combination of congruences, the rest by omega over ℕ.
-use Rattle.std.proofs.Common.{◌≡◌, ℕ, zero, suc, ◌+◌, ◌-◌, ◌*◌, ◌/◌, ◌%◌, ◌^◌, ◌<◌, ◌≤◌, ◌⊎◌, sym, refl, ap, ◌∙◌, inl, inr, mul_comm, arith}
-use native.Mathlib.Nat.{add-mod, mod-mod, mod-add-mod, add-mod-mod, mod-add-div, add-mul-mod_self_left, dvd-mul_right, mod-mod_of_dvd, mod-zero}
+use Rattle.std.proofs.Common.{◌≡◌, ℕ, suc, ◌+◌, ◌-◌, ◌*◌, ◌/◌, ◌%◌, sym, refl, ap, ◌∙◌, inl, inr, mul_comm, arith}
+use native.Mathlib.Nat.{add-mod, mod-mod, mod-add-div, add-mul-mod_self_left, dvd-mul_right, mod-mod_of_dvd, mod-zero}
 use Rattle.std.proofs.lemmas.Bool.{cases_lt}
 
 -- equal remainders; a data type, so that omega does not read the congruences in reach as facts about numbers

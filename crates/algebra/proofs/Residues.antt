@@ -1,6 +1,6 @@
 -- Equations modulo N of sums, products, remainders and differences modulo N, from given congruences.
 -- A term's value with its downs is its ups, modulo N; both are polynomials, and polynomials are compared by normal form.
-use Rattle.std.proofs.Common.{◌≡◌, ℕ, zero, suc, ◌+◌, ◌-◌, ◌*◌, ◌%◌, ◌≤◌, List, [], ◌∷◌, sym, refl, ap, ◌∙◌, add-zero, arith}
+use Rattle.std.proofs.Common.{◌≡◌, ℕ, ◌+◌, ◌-◌, ◌*◌, ◌%◌, ◌≤◌, List, [], ◌∷◌, add-zero, arith}
 use Rattle.algebra.proofs.Modulo.{Cong, same, equal, then, plus, product, times, reduced, multiple, since}
 use Rattle.algebra.proofs.Modulo as modulo
 use Rattle.algebra.proofs.Ring as ring

@@ -1,5 +1,5 @@
 -- The two ends of an interval on masked numbers.
-use Rattle.std.proofs.Common.{◌≡◌, ℕ, ◌+◌, ◌-◌, ◌%◌, ◌<◌, ◌≤◌, eqb, ltb, leb, arith}
+use Rattle.std.proofs.Common.{◌≡◌, ℕ, ◌+◌, ◌-◌, ◌<◌, ◌≤◌, eqb, ltb, leb, arith}
 use Rattle.interval.specs.Interval.{bit, point, threshold, masked, plain, after, inside, ExtraCount}
 use Rattle.interval.proofs.Tests.{wrap, tell_lt, tell_eq, tell_le, tell_inside}
 

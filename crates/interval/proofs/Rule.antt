@@ -1,5 +1,5 @@
 -- Two boxes' answers by the interval rule join to the payload inside the interval, and to zero outside.
-use Rattle.std.proofs.Common.{◌≡◌, ℕ, ◌+◌, ◌-◌, ◌<◌, ◌≤◌, Bool, true, false, cond, eqb, ltb, [], ◌∷◌, refl, ◌∙◌, mod-lt, arith}
+use Rattle.std.proofs.Common.{◌≡◌, ℕ, ◌+◌, ◌-◌, ◌<◌, Bool, true, false, cond, eqb, ltb, [], ◌∷◌, refl, ◌∙◌, mod-lt, arith}
 use Rattle.group.specs.Groups.{OutputGroup, GroupLaws}
 use Rattle.algebra.proofs.Multiples.{times, times_bit}
 use Rattle.algebra.proofs.Linear.{Term, var, plus, minus, many, linear}

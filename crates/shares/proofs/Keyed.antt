@@ -1,5 +1,5 @@
 -- The keyed gates' shares, from keys that join, make the plain meanings under the output masks.
-use Rattle.std.proofs.Common.{◌≡◌, ℕ, ◌+◌, ◌-◌, ◌/◌, ◌%◌, ◌^◌, ◌<◌, ◌≤◌, Bool, true, false, cond, ltb, sym, ap, ◌∙◌, mod-lt, mod-eq_of_lt, div-le_self, arith, pow_pos, pow_mono}
+use Rattle.std.proofs.Common.{◌≡◌, ℕ, ◌+◌, ◌/◌, ◌%◌, ◌^◌, ◌<◌, ◌≤◌, Bool, true, false, cond, ltb, ap, ◌∙◌, mod-lt, mod-eq_of_lt, div-le_self, arith, pow_pos, pow_mono}
 use native.Mathlib.Nat.{mod-mod}
 use Rattle.group.specs.Groups.{OutputGroup}
 use Rattle.group.specs.Residues.{Residue}

@@ -1,5 +1,5 @@
 -- The local gates' held values, under their masks, are the plain meanings of the inputs.
-use Rattle.std.proofs.Common.{◌≡◌, ℕ, ◌+◌, ◌-◌, ◌*◌, ◌%◌, ◌<◌, ◌≤◌, sym, ◌∙◌, mod-lt, arith}
+use Rattle.std.proofs.Common.{◌≡◌, ℕ, ◌+◌, ◌-◌, ◌*◌, ◌%◌, ◌<◌, sym, ◌∙◌, mod-lt, arith}
 use native.Mathlib.Nat.{mod-mod}
 use Rattle.algebra.proofs.Modulo.{Cong, is, back, plus, times, since, reduced}
 use Rattle.interval.specs.Interval.{plain}

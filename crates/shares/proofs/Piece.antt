@@ -1,5 +1,5 @@
 -- The moved coefficients of a cubic, and the join of a piece's shares.
-use Rattle.std.proofs.Common.{◌≡◌, ℕ, ◌+◌, ◌-◌, ◌*◌, ◌%◌, ◌^◌, ◌<◌, ◌≤◌, Bool, true, false, cond, [], ◌∷◌, sym, refl, ap, ◌∙◌, arith, pow_pos}
+use Rattle.std.proofs.Common.{◌≡◌, ℕ, ◌+◌, ◌%◌, ◌^◌, Bool, true, false, cond, [], ◌∷◌, refl, arith, pow_pos}
 use Rattle.algebra.proofs.Modulo.{Cong, cong, is, same, equal, back, then, plus, product, reduced}
 use Rattle.algebra.proofs.Residues.{Expr, var, lit, ◌⊕◌, ◌⊗◌, ◌⊖◌, red, solved}
 use Rattle.interval.specs.Interval.{plain, inside}

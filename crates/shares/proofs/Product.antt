@@ -1,5 +1,5 @@
 -- Both boxes' shares of a product join to the product of the plain values under the output mask.
-use Rattle.std.proofs.Common.{◌≡◌, ℕ, ◌+◌, ◌-◌, ◌*◌, ◌%◌, ◌<◌, ◌≤◌, true, false, mod-lt, arith}
+use Rattle.std.proofs.Common.{ℕ, ◌+◌, ◌-◌, ◌*◌, ◌%◌, ◌<◌, true, false, mod-lt, arith}
 use Rattle.algebra.proofs.Modulo.{Cong, is, same, back, then, plus, times, since, reduced, multiple}
 use Rattle.interval.specs.Interval.{plain}
 use Rattle.shares.specs.Product.{part_a, part_b, part_c, product_share}

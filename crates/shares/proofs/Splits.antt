@@ -1,8 +1,7 @@
 -- The parts of a split value make it up, and a held value its plain value.
-use Rattle.std.proofs.Common.{◌≡◌, ℕ, ◌+◌, ◌-◌, ◌%◌, ◌^◌, ◌<◌, ◌≤◌, Bool, true, false, [], ◌∷◌, sym, refl, ap, ◌∙◌, mod-lt, mod-eq_of_lt, arith}
-use native.Mathlib.Nat.{mod-mod}
+use Rattle.std.proofs.Common.{◌≡◌, ℕ, ◌+◌, ◌-◌, ◌%◌, ◌<◌, ◌≤◌, Bool, true, false, [], ◌∷◌, sym, ◌∙◌, mod-lt, mod-eq_of_lt, arith}
 use Rattle.group.specs.Groups.{OutputGroup}
-use Rattle.algebra.proofs.Modulo.{Cong, cong, is, then, plus, same, reduced, since, multiple}
+use Rattle.algebra.proofs.Modulo.{Cong, is, plus, reduced, since, multiple}
 use Rattle.algebra.proofs.Linear as linear
 use Rattle.interval.specs.Interval.{plain, masked}
 use Rattle.shares.specs.Splits.{part_of_number}

@@ -1,5 +1,5 @@
 -- Numbers under XOR are a commutative group, so XORs are rearranged as sums are.
-use Rattle.std.proofs.Common.{◌≡◌, ℕ, ◌%◌, ◌^◌, [], ◌∷◌, ap, ◌∙◌, arith}
+use Rattle.std.proofs.Common.{◌%◌, ◌^◌, [], ◌∷◌, ap, ◌∙◌, arith}
 use lib.Bits.{bit_xor, xor_zero_l, xor_assoc, xor_comm, xor_self}
 use Rattle.group.specs.Groups.{GroupLaws}
 use Rattle.algebra.proofs.Linear.{var, plus, minus, linear}

@@ -1,5 +1,5 @@
 -- What holds of the gates: two boxes' shares join to the plain meaning under the output mask.
-use Rattle.std.specs.Prelude.{◌≡◌, ℕ, ◌+◌, ◌-◌, ◌*◌, ◌/◌, ◌%◌, ◌^◌, ◌<◌, ◌≤◌, Bool, true, false, cond, bit_xor, nat_lt}
+use Rattle.std.specs.Prelude.{◌≡◌, ℕ, ◌+◌, ◌-◌, ◌/◌, ◌%◌, ◌^◌, ◌<◌, ◌≤◌, Bool, true, false, cond, bit_xor, nat_lt}
 use Rattle.group.specs.Groups.{OutputGroup}
 use Rattle.interval.specs.Interval.{plain, masked, inside}
 use Rattle.shares.specs.Splits.{part_of_number, part_of_flags, part_of_element}

@@ -1,4 +1,4 @@
-use Rattle.std.proofs.Common.{◌+◌, ◌-◌, ◌*◌, ◌%◌, [], ◌∷◌, refl, arith}
+use Rattle.std.proofs.Common.{[], ◌∷◌, refl, arith}
 use Rattle.algebra.proofs.Linear as linear
 use Rattle.algebra.proofs.Modulo.{is}
 use Rattle.algebra.proofs.Residues.{Expr, var, lit, ◌⊕◌, ◌⊗◌, ◌⊖◌, solved}

@@ -4,5 +4,5 @@ use Rattle.stored.proofs.PairStoredGroup.write.Goals as goal
 
 pub returns : goal.returns
 returns g c =
-    let h : length c.write.new.out ≡ c.size-of-middle.result = search rules in
-    two_writes c.size-of-middle.result _ c.write.new.out _ c.write-2.new.out h refl ∙ rw (c.write.ensures, c.write-2.ensures)
+    let h : length c.write.new.out ≡ c.size_of-middle.result = search rules in
+    two_writes c.size_of-middle.result _ c.write.new.out _ c.write-2.new.out h refl ∙ rw (c.write.ensures, c.write-2.ensures)
