@@ -1,6 +1,6 @@
 -- RFC 8439, the ChaCha20 block function: the state is a list of sixteen 32-bit words, a key is 32 bytes and a nonce 12.
 -- The numbers are the document's sections.
-use Rattle.std.specs.Prelude.{ℕ, zero, suc, ◌+◌, ◌-◌, ◌*◌, ◌/◌, ◌%◌, ◌^◌, List, [], ◌∷◌, ◌++◌, get_or, set}
+use Rattle.std.specs.Prelude.{ℕ, zero, suc, ◌+◌, ◌-◌, ◌*◌, ◌/◌, ◌%◌, ◌^◌, List, [], ◌∷◌, get_or, set}
 use Rattle.std.specs.Int.Bits.{bit_xor, bit_or}
 use Rattle.std.specs.Simd.Lanes.{zip2}
 

@@ -13,8 +13,8 @@ loop-i-init g c =
     let d = descent_mean m.mean c.begin-at.result in
     (refl, refl, add-zero c.count-left.result ∙ e, ap (λ n. dealt_rows x m.group β α n d) e, ap (λ n. dealt_last x m.group β α n d) e)
 
-pub overflow-sub-left : goal.overflow-sub-left
-overflow-sub-left g c = omega (arith, c.loop-i.invariant.2, c.count-i-end.ensures)
+pub overflow_sub-left : goal.overflow_sub-left
+overflow_sub-left g c = omega (arith, c.loop-i.invariant.2, c.count-i-end.ensures)
 
 pub loop-i-preserved : goal.loop-i-preserved
 loop-i-preserved g c =
@@ -24,9 +24,9 @@ loop-i-preserved g c =
     let xs = c.loop-i.rows.rows.now in
     let i = c.loop-i.i in
     let left = c.loop-i.left in
-    let row = c.row-for-row.result in
+    let row = c.row_for-row.result in
     let d = descent_mean m.mean c.loop-i.at in
-    let d' = descent_mean m.mean c.next-for-at.result in
+    let d' = descent_mean m.mean c.next_for-at.result in
     let β = m.mean c.args.payload in
     let α = c.args.threshold in
     let is : left ≡ suc (left - 1) = omega (arith, inv.2, c.count-i-end.ensures) in
@@ -35,11 +35,11 @@ loop-i-preserved g c =
       c.put.ensures.same ∙ inv.1,
       omega (arith, inv.2, is),
       ap (λ ys. dealing x m.group m.mean β α ys (i + 1) (left - 1) d') c.put.ensures.rows
-          ∙ rows_next x m.group m.mean β α d d' (left - 1) left c.bit-at-bit.result c.branch-b0.result c.branch-b1.result row is
-          c.bit-at-bit.ensures c.branch-b0.ensures c.branch-b1.ensures c.row-for-row.ensures c.next-for-at.ensures xs i lt
+          ∙ rows_next x m.group m.mean β α d d' (left - 1) left c.bit_at-bit.result c.branch-b0.result c.branch-b1.result row is
+          c.bit_at-bit.ensures c.branch-b0.ensures c.branch-b1.ensures c.row_for-row.ensures c.next_for-at.ensures xs i lt
           ∙ inv.3,
-      last_next x m.group m.mean β α d d' (left - 1) left c.bit-at-bit.result c.branch-b0.result c.branch-b1.result row is
-          c.bit-at-bit.ensures c.branch-b0.ensures c.branch-b1.ensures c.row-for-row.ensures c.next-for-at.ensures
+      last_next x m.group m.mean β α d d' (left - 1) left c.bit_at-bit.result c.branch-b0.result c.branch-b1.result row is
+          c.bit_at-bit.ensures c.branch-b0.ensures c.branch-b1.ensures c.row_for-row.ensures c.next_for-at.ensures
           ∙ inv.4,
     )
 
@@ -60,7 +60,7 @@ returns g c =
     record {
       rows = rows_end x m.group m.mean β α xs i left d all none ∙ inv.3
           ∙ ap (dealt_rows x m.group β α n) c.begin-at.ensures;
-      last = c.final-for.ensures ∙ last_end x m.group m.mean β α left d none ∙ inv.4
+      last = c.final_for.ensures ∙ last_end x m.group m.mean β α left d none ∙ inv.4
           ∙ ap (dealt_last x m.group β α n) c.begin-at.ensures;
       same = inv.1;
     }

@@ -1,4 +1,4 @@
-use Rattle.std.proofs.Common.{◌≡◌, sym, refl, ◌∙◌, arith}
+use Rattle.std.proofs.Common.{sym, refl, ◌∙◌, arith}
 use Rattle.std.proofs.lemmas.List.{at_drop_all}
 use Rattle.evaluation.specs.Evaluation.{walked, walk_mean}
 use Rattle.evaluation.proofs.Walks.{walked_next}
@@ -7,8 +7,8 @@ use Rattle.evaluation.proofs.walk_rows.Goals as goal
 pub loop-row-init : goal.loop-row-init
 loop-row-init g c = (omega arith, omega arith, refl)
 
-pub overflow-sub-left : goal.overflow-sub-left
-overflow-sub-left g c = omega (arith, c.loop-row.invariant.1)
+pub overflow_sub-left : goal.overflow_sub-left
+overflow_sub-left g c = omega (arith, c.loop-row.invariant.1)
 
 pub loop-row-preserved : goal.loop-row-preserved
 loop-row-preserved g c =
@@ -17,7 +17,7 @@ loop-row-preserved g c =
       omega arith,
       omega (arith, c.loop-row.invariant.1),
       walked_next x m.group m.mean c.args.rows.now c.loop-row.row-index c.row-item.result _ c.args.point _ _ _
-          c.loop-row-test.true c.row-item.is (omega (arith, c.loop-row.invariant.1)) c.bit-at.ensures c.step-at.ensures
+          c.loop-row-test.true c.row-item.is (omega (arith, c.loop-row.invariant.1)) c.bit_at.ensures c.step-at.ensures
           ∙ c.loop-row.invariant.2,
     )
 
