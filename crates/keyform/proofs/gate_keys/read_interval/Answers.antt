@@ -31,13 +31,13 @@ returns-in-err-ends g c =
 
 pub returns : goal.returns
 returns g c =
-    let read = c.in-ok-ends.ensures in
-    let ends = c.in-ok-ends.ends in
+    let read = c.in_ok-ends.ensures in
+    let ends = c.in_ok-ends.ends in
     record {
       read = interval_read g.G.StoredGroup.form (length c.args.rows.now.rows.now) c.args.bytes.now
-          c.front-of-key.result.now
-          c.in-ok-tail.tail c.read-key.new.rows.rows.now ends.root ends.last
-          c.in-ok-tail.ensures
-          c.front-of-key.ensures read.read;
+          c.front_of-key.result.now
+          c.in_ok-tail.tail c.read-key.new.rows.rows.now ends.root ends.last
+          c.in_ok-tail.ensures
+          c.front_of-key.ensures read.read;
       same = read.same;
     }

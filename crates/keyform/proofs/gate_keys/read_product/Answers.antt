@@ -32,12 +32,12 @@ returns-in-err-first c =
 pub returns : goal.returns
 returns c =
     let bytes = c.args.bytes.now in
-    let two = c.front-of-two.result.now in
-    let one = c.front-of-one.result.now in
-    let third = c.in-ok-third.third in
+    let two = c.front_of-two.result.now in
+    let one = c.front_of-one.result.now in
+    let third = c.in_ok-third.third in
     let second = c.in-ok-second.second in
     product_read bytes two one c.in-ok-first.first second.element third.element
-    (behind flag_form bytes two third.start third.element c.in-ok-third.ensures c.front-of-two.ensures)
+    (behind flag_form bytes two third.start third.element c.in_ok-third.ensures c.front_of-two.ensures)
     (behind flag_form two one second.start second.element c.in-ok-second.ensures
-    c.front-of-one.ensures)
+    c.front_of-one.ensures)
     c.in-ok-first.ensures

@@ -89,9 +89,9 @@ returns c =
     let n = length c.args.low.now.rows.now in
     let m = length c.args.high.now.rows.now in
     let bytes = c.args.bytes.now in
-    let keys = c.front-of-keys.result.now in
-    let rest = c.in-ok-rest.rest in
-    let size = c.word-key-size-size.result in
+    let keys = c.front_of-keys.result.now in
+    let rest = c.in_ok-rest.rest in
+    let size = c.word_key_size-size.result in
     let low = c.in-ok-low-ends.low-ends in
     let high = c.in-ok-high-ends.high-ends in
     let Low-rows = c.read-key.new.rows.rows.now in
@@ -105,8 +105,8 @@ returns c =
     record {
       read = shift_read word_form n m size bytes keys Low-rows high_rows low.root high.root low.last high.last
           rest.element
-          (behind flag_form bytes keys rest.start rest.element c.in-ok-rest.ensures
-          c.front-of-keys.ensures) l h;
+          (behind flag_form bytes keys rest.start rest.element c.in_ok-rest.ensures
+          c.front_of-keys.ensures) l h;
       same_low = low_read.same;
       same-high = high_read.same;
     }

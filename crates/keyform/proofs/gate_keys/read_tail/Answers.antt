@@ -37,14 +37,14 @@ pub returns : goal.returns
 returns g c =
     let form = g.G.StoredGroup.form in
     let bytes = c.args.bytes.now in
-    let elements = c.front-of-elements.result.now in
-    let keyed = c.front-of-keyed.result.now in
-    let out = c.in-ok-out.out in
+    let elements = c.front_of-elements.result.now in
+    let keyed = c.front_of-keyed.result.now in
+    let out = c.in_ok-out.out in
     let extra = c.in-ok-extra.extra in
     let payload = c.in-ok-payload.payload in
     tail_read form bytes elements keyed payload.start payload.element extra.element out.element
-    (behind flag_form bytes elements out.start out.element c.in-ok-out.ensures
-    c.front-of-elements.ensures)
+    (behind flag_form bytes elements out.start out.element c.in_ok-out.ensures
+    c.front_of-elements.ensures)
     (behind form elements keyed extra.start extra.element c.in-ok-extra.ensures
-    c.front-of-keyed.ensures)
+    c.front_of-keyed.ensures)
     c.in-ok-payload.ensures

@@ -45,7 +45,7 @@ loop-i-preserved g c =
     let bytes = c.args.bytes.now in
     let i = c.loop-i.i in
     let at = c.loop-i.at in
-    let w = c.row-size-size.result in
+    let w = c.row_size-size.result in
     let inv = c.loop-i.invariant in
     let row = c.in-Some.row in
     let is : n - i ≡ suc (n - (i + 1)) = omega (arith, c.loop-i-test.true, c.count-i-end.ensures) in
@@ -56,9 +56,9 @@ loop-i-preserved g c =
       ap length put ∙ length-set xs i row ∙ inv.0,
       c.put.ensures.same ∙ inv.1,
       room s.form s.size g.met.G.StoredGroup.sized (n - (i + 1)) (n - i) at w most bytes is
-          c.row-size-size.ensures inv.2 inv.3,
+          c.row_size-size.ensures inv.2 inv.3,
       rows_there s.form s.size g.met.G.StoredGroup.sized (n - (i + 1)) (n - i) at w most bytes is
-          c.row-size-size.ensures few inv.3,
+          c.row_size-size.ensures few inv.3,
       ap (λ ys. rows_bytes s.form (take (i + 1) ys)) put ∙ rows_put s.form xs i at w row bytes lt inv.4 read,
       subst (λ ys. WholeRows (take (i + 1) ys)) (sym put) (whole_put xs i row lt inv.5 read.whole),
     )

@@ -14,7 +14,7 @@ pub returns : goal.returns
 returns g c =
     let bytes = c.args.bytes.now in
     let long : 17 ≤ length bytes = omega arith in
-    row_read g.G.StoredGroup.form bytes c.read-seed.result c.in-ok-left.left
-    c.in-ok-left.right c.in-ok-element.element
-    long c.read-seed.ensures.same c.read-seed.ensures.whole c.in-ok-left.ensures
-    (c.in-ok-element.ensures ∙ take_rest bytes 17)
+    row_read g.G.StoredGroup.form bytes c.read_seed.result c.in_ok-left.left
+    c.in_ok-left.right c.in_ok-element.element
+    long c.read_seed.ensures.same c.read_seed.ensures.whole c.in_ok-left.ensures
+    (c.in_ok-element.ensures ∙ take_rest bytes 17)

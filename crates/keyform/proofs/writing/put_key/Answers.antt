@@ -13,4 +13,4 @@ pub put-element-requires : goal.put-element-requires
 put-element-requires g c = room_next _ c.put-rows-at.ensures (room_next _ c.put-seed-at.ensures c.requires)
 
 pub returns : goal.returns
-returns g c = then c.put-seed-at.ensures (then c.put-rows-at.ensures c.put-element.ensures)
+returns g c = then c.put_seed-at.ensures (then c.put_rows-at.ensures c.put_element.ensures)

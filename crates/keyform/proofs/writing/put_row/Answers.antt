@@ -20,5 +20,5 @@ put-element-requires g c =
 
 pub returns : goal.returns
 returns g c =
-    then c.put-seed-at.ensures (then (put_as (ap (λ b. b ∷ []) c.bits-of.ensures) c.put-byte-at.ensures)
+    then c.put_seed-at.ensures (then (put_as (ap (λ b. b ∷ []) c.bits_of.ensures) c.put_byte-at.ensures)
     c.put-element.ensures)

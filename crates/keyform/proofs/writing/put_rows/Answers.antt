@@ -21,7 +21,7 @@ loop-row-preserved g c =
     owes_less
     (owes_as (more g.G.StoredGroup.form c.args.rows.now c.loop-row.row-index c.row-item.result
     c.loop-row-test.true c.row-item.is) c.loop-row.invariant)
-    c.put-row-at.ensures
+    c.put_row-at.ensures
 
 pub returns : goal.returns
 returns g c =
