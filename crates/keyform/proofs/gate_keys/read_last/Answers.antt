@@ -10,15 +10,15 @@ returns-then-bytes-size g c i =
     c.args.bytes.now i in
     omega (arith, h, c.if-bytes-size.true, c.size_of-size.ensures)
 
-pub returns-in-err-element : goal.returns-in-err-element
-returns-in-err-element g c =
+pub returns-in_err-element : goal.returns-in_err-element
+returns-in_err-element g c =
     let bytes = c.args.bytes.now in
-    let size = c.size-of-size.result in
+    let size = c.size_of-size.result in
     let few : length bytes ≤ most = omega arith in
-    rw c.from-residual.ensures (λ i.
-    c.in-err-element.ensures i.last
+    rw c.from_residual.ensures (λ i.
+    c.in_err-element.ensures i.last
     (last_there g.G.StoredGroup.form g.G.StoredGroup.size g.met.G.StoredGroup.sized size most bytes
-    c.size-of-size.ensures few i
+    c.size_of-size.ensures few i
     ∙ sym (take_rest bytes (length bytes - size))))
 
 pub returns : goal.returns

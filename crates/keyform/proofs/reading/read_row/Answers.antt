@@ -3,11 +3,11 @@ use Rattle.std.proofs.lemmas.List.{take_rest}
 use Rattle.keyform.proofs.Steps.{row_element, row_read}
 use Rattle.keyform.proofs.reading.read_row.Goals as goal
 
-pub returns-in-err-element : goal.returns-in-err-element
-returns-in-err-element g c =
+pub returns-in_err-element : goal.returns-in_err-element
+returns-in_err-element g c =
     let bytes = c.args.bytes.now in
-    rw c.from-residual-in-err-element.ensures (λ i.
-    c.in-err-element.ensures i.row.element (row_element g.G.StoredGroup.form bytes i
+    rw c.from_residual-in_err-element.ensures (λ i.
+    c.in_err-element.ensures i.row.element (row_element g.G.StoredGroup.form bytes i
     ∙ sym (take_rest bytes 17)))
 
 pub returns : goal.returns

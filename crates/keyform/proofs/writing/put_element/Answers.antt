@@ -3,8 +3,8 @@ use Rattle.buffers.specs.Forms.{put_at}
 use Rattle.buffers.proofs.Puts.{mid_is_put_at}
 use Rattle.keyform.proofs.writing.put_element.Goals as goal
 
-pub overflow-add-end : goal.overflow-add-end
-overflow-add-end g c = let k = g.met.G.StoredGroup.sized c.args.element in search rules
+pub overflow_add-end : goal.overflow_add-end
+overflow_add-end g c = let k = g.met.G.StoredGroup.sized c.args.element in search rules
 
 pub write-requires : goal.write-requires
 write-requires g c = let k = g.met.G.StoredGroup.sized c.args.element in search rules
