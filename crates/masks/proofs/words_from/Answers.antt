@@ -1,4 +1,4 @@
-use Rattle.std.proofs.Common.{◌≡◌, ◌+◌, ◌<◌, ◌≢◌, length, drop, sym, ap, ◌∙◌, arith, length-set, get_or-drop, get_or-set_other, get_or-set_same, below_more}
+use Rattle.std.proofs.Common.{◌<◌, ◌≢◌, length, drop, sym, ◌∙◌, arith, length-set, get_or-drop, get_or-set_other, get_or-set_same, below_more}
 use lib.ListN.{length-replicate}
 use Rattle.masks.proofs.Fronts.{is_front}
 use Rattle.masks.proofs.words_from.Goals as goal
