@@ -8,6 +8,6 @@ use Rattle.buffers.proofs.put.Goals as goal
 
 pub returns : goal.returns
 returns c =
-    let s = c.copy-from-slice.ensures.after in
-    let e : c.args.at + length c.args.bytes.now - c.args.at ≡ length c.copy-from-slice.new.self = omega (arith, ap length s) in
-    record { after = mid_is_put_at c.args.out.now c.args.at _ c.copy-from-slice.new.self e ∙ ap (put_at c.args.out.now c.args.at) s; next = refl; fits = c.requires.fits }
+    let s = c.copy_from_slice.ensures.after in
+    let e : c.args.at + length c.args.bytes.now - c.args.at ≡ length c.copy_from_slice.new.self = omega (arith, ap length s) in
+    record { after = mid_is_put_at c.args.out.now c.args.at _ c.copy_from_slice.new.self e ∙ ap (put_at c.args.out.now c.args.at) s; next = refl; fits = c.requires.fits }

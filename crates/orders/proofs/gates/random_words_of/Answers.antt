@@ -3,32 +3,32 @@ use lib.ListN.{length-replicate}
 use Rattle.std.proofs.lemmas.List.{take_more_set}
 use Rattle.std.proofs.lemmas.Result.{err_from_is_err_and}
 use Rattle.orders.specs.Grammar.{numbers_from}
-use Rattle.reading.specs.Text.{pieces}
+use Rattle.orders.specs.Text.{pieces}
 use Rattle.orders.proofs.Read.{onto_none, onto_read, read_step, read_stop, read_all, right_count, wrong_count}
 use Rattle.orders.proofs.gates.random_words_of.Goals as goal
 
-pub returns-then-pieces-of : goal.returns-then-pieces-of
-returns-then-pieces-of g c = wrong_count g.row.K c.args.word.now (λ e. c.if-pieces-of.true (c.pieces-of.ensures ∙ e))
+pub returns-then-pieces_of : goal.returns-then-pieces_of
+returns-then-pieces_of g c = wrong_count g.row.K c.args.word.now (λ e. c.if-pieces_of.true (c.pieces_of.ensures ∙ e))
 
 pub loop-i-init : goal.loop-i-init
 loop-i-init g c = (length-replicate g.row.K 0, onto_none (numbers_from (pieces 44 c.args.word.now)))
 
-pub returns-in-err-random : goal.returns-in-err-random
-returns-in-err-random g c =
+pub returns-in_err-random : goal.returns-in_err-random
+returns-in_err-random g c =
     let w = c.args.word.now in
-    let p = err_from_is_err_and c.from-residual.result c.from-residual.ensures.1 in
-    let full = sym c.pieces-of.ensures ∙ c.if-pieces-of.false in
-    let stop = read_stop (take c.loop-i.i c.loop-i.random) (pieces 44 w) c.loop-i.i _ (omega arith) c.in-err-random.ensures in
+    let p = err_from_is_err_and c.from_residual.result c.from_residual.ensures.1 in
+    let full = sym c.pieces_of.ensures ∙ c.if-pieces_of.false in
+    let stop = read_stop (take c.loop-i.i c.loop-i.random) (pieces 44 w) c.loop-i.i _ (omega arith) c.in_err-random.ensures in
     p.1 ∙ ap Err p.2 ∙ sym (right_count g.row.K w full ∙ c.loop-i.invariant.1 ∙ stop)
 
 pub loop-i-preserved : goal.loop-i-preserved
 loop-i-preserved g c =
     let ps = pieces 44 c.args.word.now in
     let i = c.loop-i.i in
-    let n = c.in-ok-random.field-0 in
-    let full = sym c.pieces-of.ensures ∙ c.if-pieces-of.false in
+    let n = c.in_ok-random.field-0 in
+    let full = sym c.pieces_of.ensures ∙ c.if-pieces_of.false in
     let xs = c.loop-i.random in
-    let on = read_step (take i xs) ps i n (omega arith) c.in-ok-random.ensures in (
+    let on = read_step (take i xs) ps i n (omega arith) c.in_ok-random.ensures in (
       length-set xs i n ∙ c.loop-i.invariant.0,
       c.loop-i.invariant.1 ∙ on ∙ ap (λ before. onto_read before (numbers_from (drop (i + 1) ps))) (sym (take_more_set xs i n (omega arith))),
     )
@@ -36,5 +36,5 @@ loop-i-preserved g c =
 pub returns : goal.returns
 returns g c =
     let w = c.args.word.now in
-    let full = sym c.pieces-of.ensures ∙ c.if-pieces-of.false in
+    let full = sym c.pieces_of.ensures ∙ c.if-pieces_of.false in
     sym (right_count g.row.K w full ∙ c.loop-i.invariant.1 ∙ read_all c.loop-i.random (pieces 44 w) c.loop-i.i (omega arith) (omega arith))
