@@ -1,4 +1,4 @@
-"""Writes crates/wukraslo/stdout: what the built-in example prints, by the independent calculation of reference.py. Run it
+"""Writes what the built-in examples print, crates/wukraslo/stdout and crates/plan_example/stdout, by the independent calculation of reference.py. Run it
 from anywhere: python3 tests/example.py"""
 import books
 import gates
@@ -104,4 +104,5 @@ def plan_lines():
 
 
 if __name__ == "__main__":
-    write(crate("wukraslo", "stdout"), keys() + gate_lines() + plan_lines())
+    write(crate("wukraslo", "stdout"), keys() + gate_lines())
+    write(crate("plan_example", "stdout"), plan_lines())

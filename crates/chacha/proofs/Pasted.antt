@@ -1,7 +1,7 @@
 -- Parts of sixteen bytes, written one after the other.
 use Rattle.std.proofs.Common.{◌≡◌, ℕ, List, [], ◌∷◌, ◌++◌, length, get_or, replicate, sym, refl, ap, ◌∙◌, subst}
 use lib.Seq.{paste}
-use Rattle.chacha.proofs.Sixteen.{spread, sixteen}
+use Rattle.chacha.proofs.Sixteen.{sixteen}
 use Rattle.standards.specs.Rfc8439.{serialized}
 
 pub two_pasted : (a out1 out2 : List ℕ) → length a ≡ 16 → out1 ≡ paste (replicate 32 0) 0 a 16 → out2 ≡ paste out1 16 a 16 → out2 ≡ a ++ a

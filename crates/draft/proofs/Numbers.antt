@@ -1,6 +1,6 @@
 -- Numbers of a word, added one by one.
 use Rattle.std.proofs.Common.{◌≡◌, ℕ, ◌+◌, List, [], ◌∷◌, ◌++◌, get_or, sym, ap, ◌∙◌, append_assoc, add-one}
-use Rattle.reading.specs.Text.{pieces, decimal_of}
+use Rattle.orders.specs.Text.{pieces, decimal_of}
 use Rattle.planlines.specs.Grammar.{or_zero}
 use Rattle.draft.specs.Drafts.{numbers_of}
 

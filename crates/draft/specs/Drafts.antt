@@ -1,7 +1,7 @@
 -- What was read of a plan so far.
 use Rattle.std.specs.Prelude.{ℕ, zero, suc, Bool, true, cond, List, [], ◌∷◌, ◌++◌, Ok, Err, vec_items, Result, slice_index_or}
 use Rattle.orders.specs.declared.types.Fault.{Fault}
-use Rattle.reading.specs.Text.{pieces, words, nth, decimal_of}
+use Rattle.orders.specs.Text.{pieces, words, nth, decimal_of}
 use Rattle.plan.specs.declared.PlanRow.{PlanRow}
 use Rattle.planlines.specs.declared.types.PlanLine.{PlanLine}
 use Rattle.planlines.specs.declared.types.PlanLine.TheVariants.{Other, Begin, Gate, Words, Books, Book}

@@ -4,9 +4,9 @@
 ghost use Rattle.std.specs.Prelude.{◌≡◌, true, false, [], ◌∷◌, ◌++◌, OnOk};
 ghost use Rattle.draft.specs.Drafts.{numbers_of, drafted, view, with_row, with_words, followed};
 
+use orders::word_at;
 use plan::{Plan, PlanRow};
 use planlines::{PlanLine, number_in};
-use reading::word_at;
 use std::alloc::{AllocError, Global};
 
 #[derive(Drop)]

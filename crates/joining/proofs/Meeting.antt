@@ -1,7 +1,7 @@
 -- The two boxes' answers join to the payload below the threshold, and to zero elsewhere.
-use Rattle.std.proofs.Common.{◌≡◌, ℕ, zero, suc, ◌^◌, ◌<◌, Bool, true, false, cond, not, ltb, List, [], ◌∷◌, length, sym, refl, ap, ◌∙◌, subst, arith}
-use lib.Lanes.{zip2}
-use lib.Bits.{bit_xor, xor_assoc, xor_comm, xor_self, xor_zero_l, xor_zero_r}
+use Rattle.std.proofs.Common.{◌≡◌, ℕ, zero, suc, ◌^◌, ◌<◌, Bool, true, false, cond, not, List, [], ◌∷◌, length, sym, refl, ap, ◌∙◌, subst, arith}
+use Rattle.std.specs.Simd.Lanes.{zip2}
+use Rattle.std.specs.Int.Bits.{bit_xor, xor_assoc, xor_comm, xor_self, xor_zero_l}
 use Rattle.group.specs.Groups.{OutputGroup, minus}
 use Rattle.expander.specs.Meaning.{Expansion}
 use Rattle.expander.specs.Seeds.{xor_seeds}
@@ -9,9 +9,9 @@ use Rattle.expander.specs.declared.Seed.{Seed}
 use Rattle.key.specs.declared.Row.{Row}
 use Rattle.key.specs.Rows.{row_bit}
 use Rattle.evaluation.specs.declared.Walk.{Walk}
-use Rattle.evaluation.specs.Evaluation.{differ, side_of, bit_at, stepped, walked, ended, evaluated}
+use Rattle.evaluation.specs.Evaluation.{differ, side_of, bit_at, stepped, walked, ended}
 use Rattle.dealing.specs.declared.Descent.{Descent}
-use Rattle.dealing.specs.Dealing.{next_seed, next_control, row_at, next_at, dealt_rows, dealt_last, draw, signed, cancelling, start}
+use Rattle.dealing.specs.Dealing.{next_seed, next_control, row_at, next_at, dealt_rows, dealt_last, draw, cancelling}
 use Rattle.joining.specs.Joining.{AllWide, dealt_answer, compared}
 use Rattle.joining.proofs.Order.{pick, below, below_is}
 use Rattle.joining.proofs.Sums.{both_add, cancel_r, step_sum, gone_signed, left_over}

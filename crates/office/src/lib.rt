@@ -11,9 +11,8 @@ use chacha::ChaCha20;
 use console::Session;
 use draft::Draft;
 use expander::Expander;
-use orders::{Fault, Kind};
+use orders::{Fault, Kind, word_at};
 use planlines::{PlanLine, fill_bytes, parse_plan_line};
-use reading::word_at;
 use std::io;
 use zero::Zero;
 

@@ -6,11 +6,11 @@ use Rattle.std.proofs.lemmas.Bool.{and_parts, and_from, cond-true}
 use Rattle.std.proofs.lemmas.Bool.Decides.{nat_tests}
 use Rattle.std.specs.List.{AllByRecursion as All}
 use Rattle.expander.specs.declared.Seed.{Seed}
-use Rattle.reading.specs.declared.wrong.Wrong.{Wrong}
-use Rattle.reading.specs.declared.wrong.Wrong.TheVariants.{NotNumber, TooLarge, NotHex, SeedLength}
-use Rattle.reading.specs.Text.{onto, pieces, filled, words, digit, digits, numeral, value, bounded, decimal_of, hex, hexes, hex_value, hex_bytes, seed_from}
+use Rattle.orders.specs.declared.types.Wrong.{Wrong}
+use Rattle.orders.specs.declared.types.Wrong.TheVariants.{NotNumber, TooLarge, NotHex, SeedLength}
+use Rattle.orders.specs.Text.{onto, pieces, filled, words, digit, digits, numeral, value, bounded, decimal_of, hex, hexes, hex_value, hex_bytes, seed_from}
 use Rattle.orders.specs.Lines.{joined_by, hex_digit, hex_text, SeedFits}
-use Rattle.reading.proofs.Numbers.{value_push, digit_range}
+use Rattle.orders.proofs.Numbers.{value_push, digit_range}
 
 -- no byte is c
 abbrev pub lacks : ℕ → List ℕ → Bool

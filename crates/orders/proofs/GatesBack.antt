@@ -7,11 +7,11 @@ use Rattle.orders.specs.declared.types.GateBody.TheVariants as gate
 use Rattle.orders.specs.declared.types.GateName.{GateName}
 use Rattle.orders.specs.declared.types.GateName.TheVariants.{Piece, Flag, Shift, Signed, Product, Sum, Scale, Xor}
 use Rattle.orders.specs.declared.types.GateOrder.{GateOrder}
-use Rattle.reading.specs.declared.wrong.Wrong.{Wrong}
-use Rattle.reading.specs.declared.wrong.Wrong.TheVariants.{CoefficientCount, WordCount}
+use Rattle.orders.specs.declared.types.Wrong.{Wrong}
+use Rattle.orders.specs.declared.types.Wrong.TheVariants.{CoefficientCount, WordCount}
 use Rattle.orders.specs.Grammar.{gate_name_of, coefficients_from, coefficients_of, numbers_from, random_words_of, placed, body_of, gate_of}
 use Rattle.orders.specs.Lines.{decimals, numbers_text, gate_text, body_words, gate_words, kind_text, RandomFits, BodyFits, GateFits}
-use Rattle.reading.specs.Text.{decimal_of}
+use Rattle.orders.specs.Text.{decimal_of}
 use Rattle.orders.proofs.Back.{lacks, pieces_joined, Word, decimal_word, decimal_back}
 use Rattle.orders.proofs.WordsBack.{next, kind_word, kind_back, joined_word, plain, word_back, flags_back, placed_ok}
 

@@ -4,3 +4,5 @@ pub mod Orders
 pub mod Places
 pub mod Read
 pub mod WordsBack
+pub mod Numbers
+pub mod Pieces

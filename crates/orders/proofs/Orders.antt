@@ -10,11 +10,11 @@ use Rattle.orders.specs.declared.types.Order.{Order}
 use Rattle.orders.specs.declared.types.Order.TheVariants.{Nothing, Deal, At, Gate, Hold}
 use Rattle.orders.specs.declared.types.Payload.{Payload}
 use Rattle.orders.specs.declared.types.Payload.TheVariants.{Words, Flags, Pair, Quad}
-use Rattle.reading.specs.declared.wrong.Wrong.{Wrong}
-use Rattle.reading.specs.declared.wrong.Wrong.TheVariants.{PayloadParts}
+use Rattle.orders.specs.declared.types.Wrong.{Wrong}
+use Rattle.orders.specs.declared.types.Wrong.TheVariants.{PayloadParts}
 use Rattle.orders.specs.Grammar.{and_then, group_of, parts, payload_from, payload_of, placed, deal_of, order_of, parsed}
 use Rattle.orders.specs.Lines.{joined_by, kind_text, group_text, payload_parts, deal_words, line_words, written, PayloadFits, DealFits, OrderFits}
-use Rattle.reading.specs.Text.{decimal_of}
+use Rattle.orders.specs.Text.{decimal_of}
 use Rattle.orders.proofs.Back.{pieces_joined, Word, words_joined, decimal_word, decimal_back, seed_word, seed_back}
 use Rattle.orders.proofs.WordsBack.{next, kind_word, kind_back, joined_word, plain, word_back, flags_back, placed_ok}
 use Rattle.orders.proofs.GatesBack.{gate_fits, gate_back, short_ok}

@@ -1,7 +1,7 @@
 -- What is known of a word that was read.
 use Rattle.std.proofs.Common.{ℕ, true, false, cond, eqb, List, length, IfOk, Ok, Err, Result}
-use Rattle.reading.specs.declared.wrong.Wrong.{Wrong}
-use Rattle.reading.specs.declared.wrong.Wrong.TheVariants.{MissingWord}
+use Rattle.orders.specs.declared.types.Wrong.{Wrong}
+use Rattle.orders.specs.declared.types.Wrong.TheVariants.{MissingWord}
 use Rattle.orders.specs.Grammar.{fault, numbered, placed}
 
 made_numbered : {A : Type 0} (P : A → Type 0) (n : ℕ) (read : Result A Wrong) → IfOk read P → IfOk (numbered n read) P

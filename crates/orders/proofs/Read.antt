@@ -2,10 +2,10 @@
 use Rattle.std.proofs.Common.{◌≡◌, ℕ, ◌+◌, ◌<◌, ◌≤◌, eqb, List, [], ◌∷◌, ◌++◌, length, take, drop, Ok, Err, Result, sym, refl, ap, ◌∙◌, append_assoc, append-nil, eq-eqb, ne_eqb}
 use Rattle.std.proofs.lemmas.List.{at_drop_more, at_drop_all, take_all}
 use Rattle.std.proofs.lemmas.Bool.{cond-true, cond-false}
-use Rattle.reading.specs.declared.wrong.Wrong.{Wrong}
-use Rattle.reading.specs.declared.wrong.Wrong.TheVariants.{WordCount}
+use Rattle.orders.specs.declared.types.Wrong.{Wrong}
+use Rattle.orders.specs.declared.types.Wrong.TheVariants.{WordCount}
 use Rattle.orders.specs.Grammar.{and_then, numbers_from, random_words_of, word_part}
-use Rattle.reading.specs.Text.{pieces}
+use Rattle.orders.specs.Text.{pieces}
 
 -- what was read, with the numbers before it
 abbrev pub onto_read : List ℕ → Result (List ℕ) Wrong → Result (List ℕ) Wrong

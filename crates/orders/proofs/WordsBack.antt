@@ -4,11 +4,11 @@ use Rattle.std.proofs.lemmas.Bool.{cond-false, and_from, and_parts}
 use Rattle.std.specs.List.{AllByRecursion as All}
 use Rattle.orders.specs.declared.types.Kind.{Kind}
 use Rattle.orders.specs.declared.types.Kind.TheVariants.{Aes, ChaCha, Zero}
-use Rattle.reading.specs.declared.wrong.Wrong.{Wrong}
-use Rattle.reading.specs.declared.wrong.Wrong.TheVariants.{MissingWord}
+use Rattle.orders.specs.declared.types.Wrong.{Wrong}
+use Rattle.orders.specs.declared.types.Wrong.TheVariants.{MissingWord}
 use Rattle.orders.specs.Grammar.{and_then, kind_of, fault, numbered, placed}
 use Rattle.orders.specs.Lines.{joined_by, kind_text}
-use Rattle.reading.specs.Text.{decimal_of}
+use Rattle.orders.specs.Text.{decimal_of}
 use Rattle.orders.proofs.Back.{lacks, lacks_digits, Word, decimal_numeral, decimal_back}
 
 pub next : {A B E : Type 0} {r : Result A E} {x : A} (f : A → Result B E) → r ≡ Ok x → and_then r f ≡ f x

@@ -16,10 +16,10 @@ use Rattle.orders.specs.declared.types.Order.{Order}
 use Rattle.orders.specs.declared.types.Order.TheVariants.{Nothing, Deal, At, Gate, Hold}
 use Rattle.orders.specs.declared.types.Payload.{Payload}
 use Rattle.orders.specs.declared.types.Payload.TheVariants as payload
-use Rattle.reading.specs.declared.wrong.Wrong.{Wrong}
-use Rattle.reading.specs.declared.wrong.Wrong.TheVariants.{UnknownOrder, MissingWord, ExtraWord, UnknownKind, UnknownGroup, PayloadParts}
-use Rattle.reading.specs.declared.wrong.Wrong.TheVariants.{UnknownGate, CoefficientCount, WordCount}
-use Rattle.reading.specs.Text.{pieces, words, nth, decimal_of, seed_from}
+use Rattle.orders.specs.declared.types.Wrong.{Wrong}
+use Rattle.orders.specs.declared.types.Wrong.TheVariants.{UnknownOrder, MissingWord, ExtraWord, UnknownKind, UnknownGroup, PayloadParts}
+use Rattle.orders.specs.declared.types.Wrong.TheVariants.{UnknownGate, CoefficientCount, WordCount}
+use Rattle.orders.specs.Text.{pieces, words, nth, decimal_of, seed_from}
 
 abbrev pub and_then : {A B E : Type 0} → Result A E → (A → Result B E) → Result B E
 and_then (Ok x) f = f x

@@ -3,11 +3,11 @@ ghost use Rattle.std.specs.Prelude.{◌≡◌, ◌≤◌, IfOk};
 ghost use Rattle.std.specs.Str.{bytes_eq};
 ghost use Rattle.orders.specs.declared.types.Group.TheVariants.{Words, Flags, Pair, Quad};
 ghost use Rattle.orders.specs.Grammar.{kind_of, group_of, parts, word_part, flags_part, payload_from, payload_of, placed, field, ended};
-ghost use Rattle.reading.specs.Text.{words, pieces, decimal_of, seed_from};
+ghost use Rattle.orders.specs.Text.{words, pieces, decimal_of, seed_from};
 
-use crate::types::{Fault, Group, Kind, Payload};
+use crate::text::{decimal, piece_at, pieces_of, seed_of, word_at};
+use crate::types::{Fault, Group, Kind, Payload, Wrong};
 use expander::Seed;
-use reading::{Wrong, decimal, piece_at, pieces_of, seed_of, word_at};
 
 pub fn is_word(word: &[u8], name: &[u8]) -> bool
     ensures { result ≡ bytes_eq word.now name.now }

@@ -2,11 +2,11 @@
 ghost use Rattle.std.specs.Prelude.{◌≡◌};
 ghost use Rattle.orders.specs.declared.types.GateName.TheVariants.{Piece, Flag, Shift, Signed, Product, Sum, Scale, Xor};
 ghost use Rattle.orders.specs.Grammar.{gate_name_of, coefficients_of, random_words_of, field, short_field, byte_field, body_of, gate_of, hold_of};
-ghost use Rattle.reading.specs.Text.{words};
+ghost use Rattle.orders.specs.Text.{words};
 
 use crate::fields::{ended, flags_part, is_word, kind_at, number_at, placed, word_part};
-use crate::types::{Fault, GateBody, GateName, GateOrder, Order};
-use reading::{Wrong, pieces_of, word_at};
+use crate::text::{pieces_of, word_at};
+use crate::types::{Fault, GateBody, GateName, GateOrder, Order, Wrong};
 
 pub fn gate_name_of(word: &[u8]) -> Result<GateName, Wrong>
     ensures { result ≡ gate_name_of word.now }

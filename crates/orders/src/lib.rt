@@ -4,10 +4,11 @@
 ghost use Rattle.std.specs.Prelude.{◌≡◌};
 ghost use Rattle.orders.specs.Grammar.{deal_of, point_of, idle, parsed};
 ghost use Rattle.orders.specs.Lines.{ReadsBack};
-ghost use Rattle.reading.specs.Text.{words};
+ghost use Rattle.orders.specs.Text.{words};
 
 mod fields;
 mod gates;
+mod text;
 mod types;
 
 pub use fields::{
@@ -19,8 +20,10 @@ pub use gates::{
     short_at,
 };
 use gates::{gate_order, hold_order};
-pub use reading::{Wrong, decimal, hex_digit, piece_at, pieces_of, seed_of, word_at};
-pub use types::{DealOrder, Fault, GateBody, GateName, GateOrder, Group, Kind, Order, Payload};
+pub use text::{decimal, hex_digit, piece_at, pieces_of, seed_of, word_at};
+pub use types::{
+    DealOrder, Fault, GateBody, GateName, GateOrder, Group, Kind, Order, Payload, Wrong,
+};
 
 // deal KIND GROUP WIDTH THRESHOLD PAYLOAD ROOT0 ROOT1
 fn deal_order(line: &[u8]) -> Result<DealOrder, Fault>

@@ -1,12 +1,11 @@
 -- What holds of a plan that passes its questions.
-use Rattle.std.proofs.Common.{◌≡◌, ℕ, zero, suc, ◌+◌, ◌-◌, ◌^◌, ◌<◌, ◌≤◌, Bool, true, false, cond, ◌&&◌, ltb, leb, List, [], ◌∷◌, length, get_or, Ok, sym, refl, ap, ◌∙◌, subst, arith}
-use Rattle.std.proofs.lemmas.Bool.{and_parts, leb-true, ltb-true, le-ltb, false≢true}
+use Rattle.std.proofs.Common.{◌≡◌, ℕ, zero, suc, ◌+◌, ◌-◌, ◌<◌, ◌≤◌, Bool, true, ltb, leb, List, [], ◌∷◌, length, get_or, Ok, sym, refl, ap, ◌∙◌, arith}
+use Rattle.std.proofs.lemmas.Bool.{and_parts, leb-true, ltb-true}
 use Rattle.refusal.specs.declared.Refusal.{Refusal}
-use Rattle.refusal.specs.declared.Refusal.TheVariants.{PlanWidth, PlanCounts, PlanOwners, PlanReads, PlanFields, DealWords}
 use Rattle.refusal.specs.Questions.{answered}
 use Rattle.refusal.proofs.Answered.{first_yes, rest_yes}
 use Rattle.plan.specs.declared.PlanRow.{PlanRow}
-use Rattle.plan.specs.Plans.{Planned, wires, is_input, row_at, no_row, words_needed}
+use Rattle.plan.specs.Plans.{Planned, wires, row_at, no_row, words_needed}
 use Rattle.plan.specs.Questions.{within, owners_fit, reads_fit, reads_fit_from, fields_fit, all_fields_fit, plan_asks}
 
 pub record Accepted (p : Planned) (b words : ℕ) : Type 0 where

@@ -3,7 +3,7 @@ use Rattle.std.proofs.Common.{◌≡◌, ℕ, ◌+◌, ◌-◌, ◌*◌, ◌/◌
 use Rattle.std.proofs.lemmas.Bool.Decides.{nat_tests}
 use Rattle.algebra.proofs.Modulo.{Cong, is, plus, same, then, back, reduced, multiple, since}
 use Rattle.interval.specs.Interval.{inside}
-use Rattle.plan.specs.Order.{SmallerIsTold, counts_smaller, told_smaller}
+use Rattle.plan.specs.Order.{SmallerIsTold}
 
 -- (N − 1) × b is N − b modulo N
 negated : (N b : ℕ) → 1 ≤ N → b < N → Cong N ((N - 1) * b + 0) (N - b)

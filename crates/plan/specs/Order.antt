@@ -1,5 +1,5 @@
 -- When a plan counts one value as smaller than another, and the three gates that tell it.
-use Rattle.std.specs.Prelude.{◌≡◌, ℕ, ◌+◌, ◌-◌, ◌/◌, ◌%◌, ◌^◌, ◌<◌, ◌≤◌, Bool, cond, [], ◌∷◌, nat_le}
+use Rattle.std.specs.Prelude.{◌≡◌, ℕ, ◌+◌, ◌-◌, ◌/◌, ◌%◌, ◌^◌, ◌<◌, Bool, cond, [], ◌∷◌, nat_le}
 use Rattle.plan.specs.declared.GateBody.TheVariants.{Sum, Scale, Flag}
 use Rattle.plan.specs.Meaning.{plain_gate}
 

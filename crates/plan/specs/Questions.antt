@@ -1,5 +1,5 @@
 -- The questions about a plan, each over the whole plan before the next.
-use Rattle.std.specs.Prelude.{ℕ, ◌+◌, ◌^◌, Bool, true, false, not, ◌&&◌, List, [], ◌∷◌, length, nat_le, nat_lt, slice_index}
+use Rattle.std.specs.Prelude.{ℕ, ◌+◌, ◌^◌, Bool, true, not, ◌&&◌, List, [], ◌∷◌, length, nat_le, nat_lt, slice_index}
 use Rattle.refusal.specs.declared.Refusal.{Refusal}
 use Rattle.refusal.specs.declared.Refusal.TheVariants.{PlanWidth, PlanCounts, PlanOwners, PlanReads, PlanFields, DealWords}
 use Rattle.plan.specs.declared.PlanRow.{PlanRow}

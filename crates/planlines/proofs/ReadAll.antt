@@ -1,7 +1,7 @@
 -- Reading one after the other.
 use Rattle.std.proofs.Common.{◌≡◌, ℕ, ◌+◌, ◌<◌, List, length, get_or, drop, Ok, Err, Result, sym, ap, ◌∙◌}
 use Rattle.std.proofs.lemmas.List.{at_drop_more}
-use Rattle.reading.specs.declared.wrong.Wrong.{Wrong}
+use Rattle.orders.specs.declared.types.Wrong.{Wrong}
 use Rattle.orders.specs.Grammar.{and_then}
 use Rattle.planlines.specs.Grammar.{all_read}
 

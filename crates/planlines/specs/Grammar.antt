@@ -4,10 +4,10 @@ use Rattle.std.specs.Str.{bytes_eq}
 use Rattle.orders.specs.declared.types.Fault.{Fault}
 use Rattle.orders.specs.declared.types.GateName.{GateName}
 use Rattle.orders.specs.declared.types.GateName.TheVariants.{Piece, Flag, Shift, Signed, Product, Sum, Scale, Xor}
-use Rattle.reading.specs.declared.wrong.Wrong.{Wrong}
-use Rattle.reading.specs.declared.wrong.Wrong.TheVariants.{NotHex}
+use Rattle.orders.specs.declared.types.Wrong.{Wrong}
+use Rattle.orders.specs.declared.types.Wrong.TheVariants.{NotHex}
 use Rattle.orders.specs.Grammar.{and_then, field, short_field, byte_field, numbered, ended, kind_of, gate_name_of, coefficients_of}
-use Rattle.reading.specs.Text.{pieces, words, nth, decimal_of, hex_of}
+use Rattle.orders.specs.Text.{pieces, words, nth, decimal_of, hex_of}
 use Rattle.plan.specs.declared.GateBody.{GateBody}
 use Rattle.plan.specs.declared.GateBody.TheVariants as gate
 use Rattle.plan.specs.declared.PlanRow.{PlanRow}

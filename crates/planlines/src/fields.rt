@@ -1,12 +1,11 @@
 // Words of a line as what they must be.
 ghost use Rattle.std.specs.Prelude.{◌≡◌};
 ghost use Rattle.orders.specs.Grammar.{field, numbered};
-ghost use Rattle.reading.specs.Text.{words};
+ghost use Rattle.orders.specs.Text.{words};
 ghost use Rattle.planlines.specs.Grammar.{numbers_in, owners_field, room_field, hex_field};
 
 use crate::lists::{hex_in, numbers_in};
-use orders::{Fault, number_at, placed};
-use reading::{Wrong, word_at};
+use orders::{Fault, Wrong, number_at, placed, word_at};
 
 // The longest book.
 const LONGEST: usize = 54880;

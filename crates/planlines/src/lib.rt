@@ -2,11 +2,10 @@
 #![tactic(auto)]
 
 ghost use Rattle.std.specs.Prelude.{◌≡◌, true, false};
-ghost use Rattle.reading.specs.Text.{words};
+ghost use Rattle.orders.specs.Text.{words};
 ghost use Rattle.planlines.specs.Grammar.{begin_of, words_of, books_of, book_of, parsed};
 
-use orders::{Fault, byte_at, ended, is_word, kind_at, short_at};
-use reading::word_at;
+use orders::{Fault, byte_at, ended, is_word, kind_at, short_at, word_at};
 
 mod fields;
 mod lists;

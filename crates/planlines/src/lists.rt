@@ -1,9 +1,9 @@
 // Lists of numbers and bytes in hex, in one word.
 ghost use Rattle.std.specs.Prelude.{◌≡◌, ℕ, ◌<◌, ◌≤◌, [], length, slice_index, slice_index_or};
-ghost use Rattle.reading.specs.Text.{pieces, decimal_of, hex_of};
+ghost use Rattle.orders.specs.Text.{pieces, decimal_of, hex_of};
 ghost use Rattle.planlines.specs.Grammar.{numbers_in, or_zero, all_read, hex_in, byte_of, hex_byte};
 
-use reading::{Wrong, decimal, hex_digit, piece_at, pieces_of};
+use orders::{Wrong, decimal, hex_digit, piece_at, pieces_of};
 
 // How many numbers a word has, with commas between them; each is at most `most`.
 pub fn numbers_in(word: &[u8], most: u64) -> Result<usize, Wrong>

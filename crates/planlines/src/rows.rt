@@ -1,7 +1,7 @@
 // Lines that give a plan one gate more: its name and what it takes, from word 2 on.
 ghost use Rattle.std.specs.Prelude.{◌≡◌};
 ghost use Rattle.orders.specs.declared.types.GateName.TheVariants.{Piece, Flag, Shift, Signed, Product, Sum, Scale, Xor};
-ghost use Rattle.reading.specs.Text.{words};
+ghost use Rattle.orders.specs.Text.{words};
 ghost use Rattle.planlines.specs.Grammar.{body_of, row_of};
 
 use crate::types::PlanLine;

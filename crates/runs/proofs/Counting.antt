@@ -1,7 +1,7 @@
 -- The counts of used and unused keys, wire by wire and over calls.
-use Rattle.std.proofs.Common.{◌≡◌, ℕ, zero, suc, ◌+◌, ◌-◌, ◌<◌, ◌≤◌, Bool, true, false, cond, not, ◌&&◌, ◌≢◌, ◌⊎◌, List, [], ◌∷◌, length, get_or, set, sym, refl, ap, ◌∙◌, subst, inl, inr, ⊎_elim, add_assoc, arith, get_or-set_other, get_or-set_same}
-use Rattle.std.proofs.lemmas.Bool.{cases_eq, and_parts}
-use Rattle.runs.specs.Boxes.{Slot, Empty, Half, Full, is_empty, used_from, unused_from, keyed_from, used_at, unused_at}
+use Rattle.std.proofs.Common.{◌≡◌, ℕ, zero, suc, ◌+◌, ◌<◌, ◌≤◌, Bool, true, false, cond, not, ◌&&◌, ◌≢◌, ◌⊎◌, List, length, get_or, set, sym, refl, ap, subst, inl, inr, ⊎_elim, arith, get_or-set_other, get_or-set_same}
+use Rattle.std.proofs.lemmas.Bool.{cases_eq}
+use Rattle.runs.specs.Boxes.{Slot, Empty, is_empty, used_from, unused_from, keyed_from, used_at, unused_at}
 
 bits_sum : (x y : Bool) → cond {A = ℕ} (x && not y) 1 0 + cond {A = ℕ} (x && y) 1 0 ≡ cond {A = ℕ} x 1 0
 bits_sum true true = refl

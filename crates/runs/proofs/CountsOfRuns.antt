@@ -1,13 +1,13 @@
 -- Every count of a run is right.
-use Rattle.std.proofs.Common.{◌≡◌, ℕ, zero, suc, ◌+◌, ◌<◌, ◌≤◌, Bool, true, false, cond, not, ◌&&◌, ltb, leb, ◌⊎◌, List, [], ◌∷◌, length, get_or, set, replicate, None, sym, refl, ap, ◌∙◌, subst, ap₂, inl, inr, ⊎_elim, arith, length-set, get_or-set_same}
+use Rattle.std.proofs.Common.{◌≡◌, ℕ, zero, suc, ◌+◌, ◌<◌, ◌≤◌, Bool, true, false, cond, not, ◌&&◌, ltb, leb, List, [], ◌∷◌, length, get_or, set, replicate, None, sym, refl, ap, ◌∙◌, ap₂, inl, ⊎_elim, arith, length-set}
 use lib.ListN.{length-replicate}
-use Rattle.std.proofs.lemmas.Bool.{and_parts, or_cases, ltb-true, leb-true, cases_Bool, false≢true, cond-true, cond-false}
+use Rattle.std.proofs.lemmas.Bool.{and_parts, or_cases, ltb-true, leb-true, false≢true}
 use Rattle.key.specs.declared.BoxNumber.{BoxNumber}
 use Rattle.key.specs.declared.BoxNumber.TheVariants.{Zero, One}
 use Rattle.runs.specs.Plans.{other, same_box, Wiring, Deal, is_input, is_gate, is_keyed, wires, all_of}
 use Rattle.refusal.specs.declared.Refusal.{Refusal}
-use Rattle.runs.specs.Boxes.{Slot, Empty, Half, Full, Act, Put, Work, Send, Take, Show, Count, Answer, Done, Sent, Shown, Counted, Refused, slot_at, held_at, is_empty, list_in, filled, worked, awaits, awaited, number_at, used_at, used_from, unused_from, used, unused, asks, says, leaves, step}
-use Rattle.runs.specs.Runs.{Call, Event, event, Here, box_at, next_at, next, after, loaded, keyed_work, keyed_works, keyed_gates}
+use Rattle.runs.specs.Boxes.{Slot, Empty, Half, Full, Act, Put, Work, Send, Take, Show, Count, Counted, Refused, slot_at, held_at, is_empty, list_in, filled, worked, awaits, awaited, number_at, used_at, used_from, used, unused, asks, says, leaves, step}
+use Rattle.runs.specs.Runs.{Call, Here, box_at, next_at, next, after, loaded, keyed_work, keyed_works, keyed_gates}
 use Rattle.runs.specs.Theorem.{CountsRight, CountsStand}
 use Rattle.runs.proofs.Invariant.{input_below, gate_below, keyed_gate}
 use Rattle.runs.proofs.Steps.{Yes, carried_both}

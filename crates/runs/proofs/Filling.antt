@@ -1,14 +1,14 @@
 -- Which calls fill a wire, and that a full wire stays full.
-use Rattle.std.proofs.Common.{◌≡◌, ℕ, zero, suc, ◌+◌, ◌^◌, ◌<◌, ◌≤◌, Bool, true, false, cond, not, ◌&&◌, ◌||◌, eqb, ltb, leb, ◌≢◌, ◌⊎◌, List, [], ◌∷◌, length, get_or, set, Some, None, Option, sym, refl, ap, ◌∙◌, subst, ap₂, inl, inr, ⊎_elim, arith, get_or-set_other, get_or-set_same}
+use Rattle.std.proofs.Common.{◌≡◌, ℕ, ◌<◌, Bool, true, false, cond, ◌&&◌, eqb, ◌≢◌, List, [], ◌∷◌, length, get_or, set, Some, None, Option, sym, refl, ap, ◌∙◌, subst, ap₂, ⊎_elim, arith, get_or-set_other, get_or-set_same}
 use Rattle.std.proofs.lemmas.Bool.{cases_Bool, and_from, both_ways, eq-eqb, false≢true, not_from_false}
 use Rattle.key.specs.declared.BoxNumber.{BoxNumber}
 use Rattle.key.specs.declared.BoxNumber.TheVariants.{Zero, One}
 use Rattle.runs.specs.Plans.{other, same_box, Wiring, Deal, Formed, Dealt, Group, AllBelow, all_of, joined, hide, is_input, is_gate, is_keyed, wires}
 use Rattle.refusal.specs.declared.Refusal.{Refusal}
-use Rattle.runs.specs.Boxes.{Slot, Empty, Half, Full, Act, Put, Work, Send, Take, Show, Count, Answer, Done, Sent, Shown, Counted, Refused, slot_at, held_at, full_in, is_empty, is_full, is_some, list_in, outgoing, filled, worked, awaits, awaited, sendable, message, number_at, box_byte, carried, asks, says, leaves, step}
+use Rattle.runs.specs.Boxes.{Slot, Empty, Half, Full, Act, Put, Work, Send, Take, Show, Count, Answer, Done, Refused, slot_at, held_at, full_in, is_empty, is_full, is_some, list_in, filled, worked, awaits, awaited, number_at, box_byte, carried, asks, says, leaves, step}
 use Rattle.runs.specs.Runs.{Event, event, Here, box_at, next_at, Wrote, Handed, readings}
-use Rattle.runs.proofs.Invariant.{Good, GoodMessage, input_unkeyed, input_below, gate_below, gate_no_input, carries_within}
-use Rattle.runs.proofs.Steps.{Yes, carried_both, empty_is, message_value, message_deal}
+use Rattle.runs.proofs.Invariant.{Good, input_unkeyed, input_below, gate_below, carries_within}
+use Rattle.runs.proofs.Steps.{Yes, carried_both, message_value, message_deal}
 use Rattle.runs.proofs.ShownRight.{Sound, next_sound}
 
 -- a call that every question lets pass, and one that some question does not

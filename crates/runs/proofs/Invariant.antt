@@ -1,13 +1,13 @@
 -- What holds of two boxes and their past after every fair list of calls.
-use Rattle.std.proofs.Common.{◌≡◌, ℕ, zero, suc, ◌+◌, ◌*◌, ◌/◌, ◌%◌, ◌^◌, ◌<◌, ◌≤◌, Bool, true, false, cond, not, ◌&&◌, ◌||◌, eqb, ltb, leb, ◌≢◌, ◌⊎◌, List, [], ◌∷◌, length, get_or, set, Some, None, Option, sym, refl, ap, ◌∙◌, subst, ap₂, inl, inr, ⊎_elim, arith, length-set, get_or-set_other, get_or-set_same}
+use Rattle.std.proofs.Common.{◌≡◌, ℕ, ◌+◌, ◌*◌, ◌/◌, ◌%◌, ◌^◌, ◌<◌, ◌≤◌, true, false, ◌||◌, ltb, leb, ◌≢◌, ◌⊎◌, List, [], ◌∷◌, length, set, Some, None, Option, sym, refl, ap, ◌∙◌, subst, inl, inr, ⊎_elim, arith, length-set, get_or-set_other, get_or-set_same}
 use mathlib.Core.Path.{fun_ext}
 use native.Mathlib.Nat.{div-div-eq-div-mul}
-use Rattle.std.proofs.lemmas.Bool.{cases_Bool, cases_eq, and_parts, or_cases, both_ways, ltb-true, leb-true, le-ltb, and_left, false≢true}
+use Rattle.std.proofs.lemmas.Bool.{cases_Bool, cases_eq, and_parts, both_ways, ltb-true, leb-true, le-ltb}
 use Rattle.key.specs.declared.BoxNumber.{BoxNumber}
 use Rattle.key.specs.declared.BoxNumber.TheVariants.{Zero, One}
-use Rattle.runs.specs.Plans.{other, Wiring, Deal, Formed, Dealt, Lawful, all_of, plain, hide, hide_all, is_input, is_gate, is_keyed, wires}
-use Rattle.runs.specs.Boxes.{Slot, Empty, Half, Full, Act, Put, Work, Send, Take, Show, Answer, Done, Sent, Shown, Counted, Refused, slot_at, is_empty, message, number_at, number_bytes}
-use Rattle.runs.specs.Runs.{Event, Wrote, readings, ◌∈◌}
+use Rattle.runs.specs.Plans.{Wiring, Deal, Formed, Dealt, all_of, plain, hide, hide_all, is_input, is_gate, is_keyed, wires}
+use Rattle.runs.specs.Boxes.{Slot, Empty, Half, Full, Act, Show, Answer, Done, Sent, Shown, Counted, Refused, slot_at, message, number_at, number_bytes}
+use Rattle.runs.specs.Runs.{Event, Wrote, ◌∈◌}
 use Rattle.runs.proofs.Plain.{Grows, plain_grows, all_of_grows, plain_within, reads_within, InRange}
 
 -- a wire's value is held: it is the plain value, hidden

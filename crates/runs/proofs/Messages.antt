@@ -1,10 +1,10 @@
 -- Every message that was written is right.
-use Rattle.std.proofs.Common.{◌≡◌, ℕ, suc, Bool, true, false, cond, ◌||◌, ◌⊎◌, List, Option, sym, refl, ap, ◌∙◌, inl, inr, ⊎_elim}
-use Rattle.std.proofs.lemmas.Bool.{or_cases, both_ways, false≢true}
+use Rattle.std.proofs.Common.{◌≡◌, ℕ, true, cond, List, Option, sym, ap, ◌∙◌, inl, inr, ⊎_elim}
+use Rattle.std.proofs.lemmas.Bool.{or_cases, false≢true}
 use Rattle.key.specs.declared.BoxNumber.{BoxNumber}
 use Rattle.runs.specs.Plans.{Wiring, Deal, is_input, is_keyed, all_of, plain, plain_below, meant}
 use Rattle.runs.specs.Theorem.{MessageRight, MessagesStand}
-use Rattle.runs.proofs.Invariant.{Carries, GoodMessage, input_unkeyed}
+use Rattle.runs.proofs.Invariant.{GoodMessage}
 use Rattle.runs.proofs.ShownRight.{run_sound}
 
 -- an input's plain value is its reading

@@ -1,10 +1,10 @@
 -- A round is a list of calls.
-use Rattle.std.proofs.Common.{◌≡◌, ℕ, zero, suc, Bool, true, false, cond, List, [], ◌∷◌, ◌++◌, sym, refl, ap, ◌∙◌, subst, inl, inr, arith}
+use Rattle.std.proofs.Common.{◌≡◌, ℕ, zero, suc, Bool, true, false, cond, List, [], ◌∷◌, ◌++◌, refl, ap, ◌∙◌, arith}
 use Rattle.key.specs.declared.BoxNumber.{BoxNumber}
 use Rattle.key.specs.declared.BoxNumber.TheVariants.{Zero, One}
 use Rattle.runs.specs.Plans.{other, Wiring, Deal, is_input, wires}
 use Rattle.runs.specs.Boxes.{Act, Put, Work, Send, Take, Answer, Done, Sent, Shown, Counted, Refused, step}
-use Rattle.runs.specs.Runs.{Call, call, Event, event, Here, box_at, next_at, next, after, Wrote, Handed, Fair, last_answer, take_if, exchange, begun, round_from, round}
+use Rattle.runs.specs.Runs.{Call, call, event, Here, box_at, next_at, next, after, Wrote, Handed, Fair, last_answer, take_if, exchange, begun, round_from}
 use Rattle.runs.specs.Theorem.{RoundsRun}
 use Rattle.runs.proofs.Filling.{not_take, is_handed}
 use Rattle.runs.proofs.Rounds.{next_wrote, take_if_wrote, last_wrote}

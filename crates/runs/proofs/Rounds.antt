@@ -1,14 +1,13 @@
 -- One round fills every wire at both boxes.
-use Rattle.std.proofs.Common.{◌≡◌, ℕ, zero, suc, ◌+◌, ◌<◌, ◌≤◌, Bool, true, false, cond, not, ◌&&◌, ◌||◌, ◌≢◌, ◌⊎◌, List, [], ◌∷◌, get_or, sym, refl, ap, ◌∙◌, subst, ap₂, inl, inr, ⊎_elim, arith}
+use Rattle.std.proofs.Common.{◌≡◌, ℕ, zero, suc, ◌+◌, ◌<◌, ◌≤◌, true, false, List, sym, refl, ap, ◌∙◌, subst, inl, inr, ⊎_elim, arith}
 use Rattle.std.proofs.lemmas.Bool.{cases_Bool, cases_eq, and_from, or_left, or_right, both_ways, false≢true, not_from_false, cond-true, cond-false}
 use Rattle.key.specs.declared.BoxNumber.{BoxNumber}
 use Rattle.key.specs.declared.BoxNumber.TheVariants.{Zero, One}
-use Rattle.runs.specs.Plans.{other, same_box, Wiring, Deal, Formed, Dealt, is_input, is_gate, is_keyed, wires}
-use Rattle.runs.specs.Boxes.{Slot, Act, Put, Work, Send, Take, Answer, Done, Sent, Shown, Counted, Refused, slot_at, is_empty, is_full, outgoing, awaited, sendable, message, asks, says, leaves, step}
-use Rattle.runs.specs.Runs.{Event, Here, box_at, next_at, after, loaded, Wrote, Fair, readings, last_answer, take_if, exchange, begun, round_from, round}
-use Rattle.runs.specs.Theorem.{EveryFull, RoundsFill}
+use Rattle.runs.specs.Plans.{other, same_box, Wiring, Deal, Formed, Dealt, is_input, is_keyed, wires}
+use Rattle.runs.specs.Boxes.{Slot, Act, Put, Work, Send, Take, Answer, Done, Sent, Shown, Counted, Refused, slot_at, is_empty, is_full, outgoing, awaited, sendable, message, asks, says, step}
+use Rattle.runs.specs.Runs.{Here, box_at, next_at, after, loaded, Wrote, last_answer, take_if, begun, round_from}
+use Rattle.runs.specs.Theorem.{RoundsFill}
 use Rattle.runs.proofs.Plain.{gate_from}
-use Rattle.runs.proofs.Invariant.{input_unkeyed, input_below, gate_below, gate_no_input}
 use Rattle.runs.proofs.ShownRight.{Sound, run_sound}
 use Rattle.runs.proofs.Filling.{carried_yes, box_other, box_sent, stays_full, put_sound, work_sound, send_sound, take_sound, put_fills, work_fills, take_fills}
 

@@ -1,12 +1,12 @@
 -- Every value that a box has shown is that wire's plain value.
-use Rattle.std.proofs.Common.{◌≡◌, ℕ, zero, suc, ◌+◌, ◌<◌, ◌≤◌, List, [], ◌∷◌, length, get_or, replicate, Some, None, Option, sym, refl, ap, ◌∙◌, subst, arith}
+use Rattle.std.proofs.Common.{◌≡◌, ℕ, zero, suc, ◌≤◌, List, [], ◌∷◌, length, replicate, Option, sym, refl, ap, ◌∙◌, subst, arith}
 use mathlib.Core.Path.{fun_ext}
 use lib.ListN.{length-replicate}
 use Rattle.key.specs.declared.BoxNumber.{BoxNumber}
 use Rattle.key.specs.declared.BoxNumber.TheVariants.{Zero, One}
-use Rattle.runs.specs.Plans.{other, Wiring, Deal, Formed, Dealt, wires}
-use Rattle.runs.specs.Boxes.{Slot, Empty, Act, Answer, slot_at, step}
-use Rattle.runs.specs.Runs.{Call, Event, event, Here, box_at, next_at, next, after, loaded, Handed, Fair, readings}
+use Rattle.runs.specs.Plans.{Wiring, Deal, Formed, Dealt, wires}
+use Rattle.runs.specs.Boxes.{Slot, Empty, Act, slot_at, step}
+use Rattle.runs.specs.Runs.{Call, event, Here, box_at, next_at, next, after, loaded, Handed, Fair, readings}
 use Rattle.runs.specs.Theorem.{ShownValuesStand}
 use Rattle.runs.proofs.Plain.{none_some}
 use Rattle.runs.proofs.Invariant.{Inv, Good, upd}

@@ -1,15 +1,15 @@
 -- Each call keeps what holds of two boxes and their past.
-use Rattle.std.proofs.Common.{◌≡◌, ℕ, zero, suc, ◌+◌, ◌^◌, ◌<◌, ◌≤◌, Bool, true, false, cond, not, ◌&&◌, ◌||◌, eqb, ltb, leb, ◌≢◌, ◌⊎◌, List, [], ◌∷◌, length, get_or, set, Some, None, Option, sym, refl, ap, ◌∙◌, subst, ap₂, inl, inr, ⊎_elim, arith, length-set, get_or-set_other, get_or-set_same}
+use Rattle.std.proofs.Common.{◌≡◌, ℕ, ◌^◌, ◌<◌, Bool, true, false, cond, ◌&&◌, ◌||◌, eqb, List, [], ◌∷◌, length, get_or, set, Some, None, Option, sym, refl, ap, ◌∙◌, subst, ap₂, inl, inr, ⊎_elim, arith}
 use mathlib.Core.Path.{fun_ext}
-use Rattle.std.proofs.lemmas.Bool.{cases_Bool, cases_eq, and_parts, and_from, and_right, or_cases, both_ways, ltb-true, leb-true, le-ltb, eqb-true, eqb-false, eq-eqb, ne_eqb, cond-true, cond-false, not-true, false≢true, or_left, or_right}
+use Rattle.std.proofs.lemmas.Bool.{cases_eq, and_parts, and_from, and_right, or_cases, both_ways, eqb-true, eq-eqb, ne_eqb, not-true, false≢true, or_left, or_right}
 use Rattle.key.specs.declared.BoxNumber.{BoxNumber}
 use Rattle.key.specs.declared.BoxNumber.TheVariants.{Zero, One}
-use Rattle.runs.specs.Plans.{other, same_box, Wiring, Deal, Formed, Dealt, Lawful, all_of, meant, joined, plain, hide, reveal, hide_all, is_input, is_gate, is_keyed, wires}
+use Rattle.runs.specs.Plans.{other, same_box, Wiring, Deal, Formed, Dealt, all_of, meant, plain, hide, reveal, hide_all, is_input, is_gate, is_keyed, wires}
 use Rattle.refusal.specs.declared.Refusal.{Refusal}
 use Rattle.runs.specs.Boxes.{Slot, Empty, Half, Full, Act, Put, Work, Send, Take, Show, Count, Answer, Done, Sent, Shown, Counted, Refused, used, unused, slot_at, held_at, full_in, is_empty, is_full, is_some, list_in, outgoing, value_in, filled, worked, awaits, sendable, message, number_at, carried, asks, says, leaves, step}
-use Rattle.runs.specs.Runs.{Event, event, Wrote, Handed, readings, with_put, first, ◌∈◌}
-use Rattle.runs.proofs.Plain.{Grows, plain_grows, all_of_grows, plain_within, reads_within, InRange, plain_input, plain_gate, none_some, some_inj, joined_some, joined_from}
-use Rattle.runs.proofs.Invariant.{Held, Shared, Good, GoodOwn, Carries, GoodMessage, Inv, keyed_gate, gate_below, gate_no_input, input_below, input_unkeyed, read_back, carries_within, upd, upd_same, set_slots, quiet, changed, tag, apart}
+use Rattle.runs.specs.Runs.{Event, event, Handed, readings, with_put, first}
+use Rattle.runs.proofs.Plain.{Grows, plain_within, reads_within, InRange, plain_input, plain_gate, none_some, some_inj, joined_some, joined_from}
+use Rattle.runs.proofs.Invariant.{Held, Good, Carries, Inv, keyed_gate, gate_below, gate_no_input, input_below, input_unkeyed, read_back, carries_within, upd, upd_same, set_slots, quiet, changed, apart}
 
 -- each question was answered by yes
 abbrev pub Yes : List (Bool × Refusal) → Type 0

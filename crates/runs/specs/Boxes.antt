@@ -1,11 +1,11 @@
 -- What a box holds, and what each call answers and leaves.
-use Rattle.std.specs.Prelude.{ℕ, zero, suc, ◌+◌, ◌*◌, ◌/◌, ◌%◌, Bool, true, false, cond, not, ◌&&◌, ◌||◌, List, [], ◌∷◌, length, replicate, Some, None, Option, ◌==◌, nat_le, slice_index, slice_index_or, slice_set}
+use Rattle.std.specs.Prelude.{ℕ, zero, suc, ◌+◌, ◌*◌, ◌/◌, ◌%◌, Bool, true, false, cond, not, ◌&&◌, ◌||◌, List, [], ◌∷◌, length, Some, None, Option, ◌==◌, nat_le, slice_index, slice_index_or, slice_set}
 use Rattle.key.specs.declared.BoxNumber.{BoxNumber}
 use Rattle.key.specs.declared.BoxNumber.TheVariants.{Zero, One}
 use Rattle.refusal.specs.declared.Refusal.{Refusal}
 use Rattle.refusal.specs.declared.Refusal.TheVariants.{NotInput, NotOwned, ReadingRange, NotEmpty, NotGate, NotReady, NotSendable, NothingHeld}
 use Rattle.refusal.specs.declared.Refusal.TheVariants.{BufferLength, MessageLength, MessageOrigin, NotTakeable, ValueRange, NotAwaited, NotShown, NotFull}
-use Rattle.runs.specs.Plans.{other, same_box, Group, Wiring, Deal, wires, is_input, is_gate, is_keyed, hide, reveal, all_of}
+use Rattle.runs.specs.Plans.{other, same_box, Group, Wiring, Deal, is_input, is_gate, is_keyed, hide, reveal, all_of}
 
 -- A full wire that has a key keeps its own share beside the value.
 pub data Slot : Type 0 where

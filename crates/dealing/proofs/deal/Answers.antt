@@ -1,4 +1,4 @@
-use Rattle.std.proofs.Common.{◌≡◌, ℕ, suc, ◌+◌, ◌-◌, ◌<◌, ◌≤◌, true, false, length, set, sym, refl, ap, ◌∙◌, add-zero, arith, length-set, rules}
+use Rattle.std.proofs.Common.{◌≡◌, suc, ◌+◌, ◌-◌, ◌<◌, ◌≤◌, length, refl, ap, ◌∙◌, add-zero, arith, length-set}
 use Rattle.dealing.specs.Dealing.{descent_mean, dealt_rows, dealt_last}
 use Rattle.dealing.proofs.Dealt.{dealing, rows_next, last_next, rows_end, last_end}
 use Rattle.dealing.proofs.deal.Goals as goal

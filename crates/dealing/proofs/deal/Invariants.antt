@@ -1,4 +1,4 @@
-use Rattle.std.proofs.Common.{◌≡◌, ◌+◌, ◌++◌, map, length, take}
+use Rattle.std.proofs.Common.{◌≡◌, ◌+◌, length}
 use Rattle.dealing.specs.Dealing.{descent_mean, dealt_rows, dealt_last}
 use Rattle.dealing.proofs.Dealt.{dealing}
 use Rattle.dealing.proofs.deal.Given as goal

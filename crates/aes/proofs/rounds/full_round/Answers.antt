@@ -7,4 +7,4 @@ pub returns : goal.returns
 unfolding block_bytes full_round add_round_key mix_columns shift_rows sub_bytes mix_column
 returns c =
     four_words _ _ _ _ _ _ _ _
-    c.round-column.ensures c.round-column-2.ensures c.round-column-3.ensures c.round-column-4.ensures
+    c.round_column.ensures c.round_column-2.ensures c.round_column-3.ensures c.round_column-4.ensures

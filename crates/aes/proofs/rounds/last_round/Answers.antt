@@ -7,4 +7,4 @@ pub returns : goal.returns
 unfolding block_bytes last_round add_round_key shift_rows sub_bytes
 returns c =
     four_words _ _ _ _ _ _ _ _
-    c.last-column.ensures c.last-column-2.ensures c.last-column-3.ensures c.last-column-4.ensures
+    c.last_column.ensures c.last_column-2.ensures c.last_column-3.ensures c.last_column-4.ensures

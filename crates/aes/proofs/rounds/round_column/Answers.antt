@@ -14,18 +14,18 @@ row k r x y hk hx h e = ap word_bytes h ∙ row_entry k x hk hx ∙ ap (λ (n : 
 pub returns : goal.returns
 unfolding mix_column
 returns c =
-    let a : ℕ = c.mixed-row-0.result in
-    let b : ℕ = c.mixed-row-1.result in
-    let d : ℕ = c.mixed-row-2.result in
-    let e : ℕ = c.mixed-row-3.result in
+    let a : ℕ = c.mixed_row_0.result in
+    let b : ℕ = c.mixed_row_1.result in
+    let d : ℕ = c.mixed_row_2.result in
+    let e : ℕ = c.mixed_row_3.result in
     let p : List ℕ = mixed_row 0 (s_box (c.args.a / 16777216 % 256)) in
     let q : List ℕ = mixed_row 1 (s_box (c.args.b / 65536 % 256)) in
     let r : List ℕ = mixed_row 2 (s_box (c.args.c / 256 % 256)) in
     let s : List ℕ = mixed_row 3 (s_box (c.args.d % 256)) in
-    let ha : word_bytes a ≡ p = row 0 a _ _ (omega arith) c.first-byte.type-inv c.mixed-row-0.ensures c.first-byte.ensures in
-    let hb : word_bytes b ≡ q = row 1 b _ _ (omega arith) c.second-byte.type-inv c.mixed-row-1.ensures c.second-byte.ensures in
-    let hd : word_bytes d ≡ r = row 2 d _ _ (omega arith) c.third-byte.type-inv c.mixed-row-2.ensures c.third-byte.ensures in
-    let he : word_bytes e ≡ s = row 3 e _ _ (omega arith) c.fourth-byte.type-inv c.mixed-row-3.ensures c.fourth-byte.ensures in
+    let ha : word_bytes a ≡ p = row 0 a _ _ (omega arith) c.first_byte.type_inv c.mixed_row_0.ensures c.first_byte.ensures in
+    let hb : word_bytes b ≡ q = row 1 b _ _ (omega arith) c.second_byte.type_inv c.mixed_row_1.ensures c.second_byte.ensures in
+    let hd : word_bytes d ≡ r = row 2 d _ _ (omega arith) c.third_byte.type_inv c.mixed_row_2.ensures c.third_byte.ensures in
+    let he : word_bytes e ≡ s = row 3 e _ _ (omega arith) c.fourth_byte.type_inv c.mixed_row_3.ensures c.fourth_byte.ensures in
     let two = xor_of_known a b p q ha hb in
     let three = xor_of_known (bit_xor a b) d (xor p q) r two hd in
     let four = xor_of_known (bit_xor (bit_xor a b) d) e (xor (xor p q) r) s three he in

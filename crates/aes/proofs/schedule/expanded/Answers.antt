@@ -18,8 +18,8 @@ pub loop-round-preserved : goal.loop-round-preserved
 loop-round-preserved c =
     let i : ℕ = c.loop-round.round in
     let lt : i + 1 < length c.loop-round.keys = omega arith in
-    let new : block_bytes c.next-round-key-last.result ≡ round_key (i + 1) (block_bytes c.args.key) =
-    next i _ _ _ _ c.loop-round-test.true c.round-constant.ensures c.loop-round.invariant.0 c.next-round-key-last.ensures in (
+    let new : block_bytes c.next_round_key-last.result ≡ round_key (i + 1) (block_bytes c.args.key) =
+    next i _ _ _ _ c.loop-round-test.true c.round_constant.ensures c.loop-round.invariant.0 c.next_round_key-last.ensures in (
       new,
       below_more _ _
           (λ k h. let ne : k ≢ i + 1 = omega arith in rw get_or-set_other (c.loop-round.invariant.1 k h))

@@ -1,4 +1,4 @@
-use Rattle.std.proofs.Common.{◌≡◌, ℕ, ◌<◌, sym, ap, ◌∙◌, arith}
+use Rattle.std.proofs.Common.{ℕ, ◌<◌, sym, ap, ◌∙◌, arith}
 use lib.Bits.{bit_xor, xor_zero_r, xor_lt}
 use Rattle.aes.specs.Blocks.{word_bytes}
 use Rattle.standards.specs.Fips197.{s_box, schedule_core}
@@ -12,10 +12,10 @@ returns c =
     let small : k < 256 = omega arith in
     let h = bytes_of_join
     (bit_xor c.substituted.result k) c.substituted-2.result c.substituted-3.result c.substituted-4.result
-    (xor_lt 8 c.substituted.result k c.substituted.type-inv small) c.substituted-2.type-inv c.substituted-3.type-inv c.substituted-4.type-inv in
-    ap word_bytes c.from-be-bytes.ensures ∙ h ∙
+    (xor_lt 8 c.substituted.result k c.substituted.type_inv small) c.substituted-2.type_inv c.substituted-3.type_inv c.substituted-4.type_inv in
+    ap word_bytes c.from_be_bytes.ensures ∙ h ∙
     four_bytes _ _ _ _ _ _ _ _
-    (ap (λ (x : ℕ). bit_xor x k) (c.substituted.ensures ∙ ap s_box c.second-byte.ensures))
-    (c.substituted-2.ensures ∙ ap s_box c.third-byte.ensures ∙ sym (xor_zero_r _))
-    (c.substituted-3.ensures ∙ ap s_box c.fourth-byte.ensures ∙ sym (xor_zero_r _))
-    (c.substituted-4.ensures ∙ ap s_box c.first-byte.ensures ∙ sym (xor_zero_r _))
+    (ap (λ (x : ℕ). bit_xor x k) (c.substituted.ensures ∙ ap s_box c.second_byte.ensures))
+    (c.substituted-2.ensures ∙ ap s_box c.third_byte.ensures ∙ sym (xor_zero_r _))
+    (c.substituted-3.ensures ∙ ap s_box c.fourth_byte.ensures ∙ sym (xor_zero_r _))
+    (c.substituted-4.ensures ∙ ap s_box c.first_byte.ensures ∙ sym (xor_zero_r _))

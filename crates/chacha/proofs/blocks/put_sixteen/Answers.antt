@@ -6,4 +6,4 @@ pub returns : goal.returns
 returns c =
     let place = c.args.place in
     put_mid-paste place (place + 16 - place) c.args.out.now _ c.args.part.now 16
-    c.copy-from-slice.ensures.after (omega arith) (sym c.told-part)
+    c.copy_from_slice.ensures.after (omega arith) (sym c.told-part)

@@ -10,4 +10,4 @@ returns c =
     let y = c.args.y % 16 in
     let z = c.args.z % 16 in
     let w = c.args.w % 16 in
-    ap (λ (q : ℕ × ℕ × ℕ × ℕ). set (set (set (set s x q.0) y q.1) z q.2) w q.3) c.quarter-round-a.ensures
+    ap (λ (q : ℕ × ℕ × ℕ × ℕ). set (set (set (set s x q.0) y q.1) z q.2) w q.3) c.quarter_round-a.ensures

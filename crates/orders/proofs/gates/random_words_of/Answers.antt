@@ -3,7 +3,7 @@ use lib.ListN.{length-replicate}
 use Rattle.std.proofs.lemmas.List.{take_more_set}
 use Rattle.std.proofs.lemmas.Result.{err_from_is_err_and}
 use Rattle.orders.specs.Grammar.{numbers_from}
-use Rattle.reading.specs.Text.{pieces}
+use Rattle.orders.specs.Text.{pieces}
 use Rattle.orders.proofs.Read.{onto_none, onto_read, read_step, read_stop, read_all, right_count, wrong_count}
 use Rattle.orders.proofs.gates.random_words_of.Goals as goal
 

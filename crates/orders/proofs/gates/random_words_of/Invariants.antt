@@ -1,6 +1,6 @@
 use Rattle.std.proofs.Common.{◌≡◌, length, take, drop}
 use Rattle.orders.specs.Grammar.{numbers_from}
-use Rattle.reading.specs.Text.{pieces}
+use Rattle.orders.specs.Text.{pieces}
 use Rattle.orders.proofs.Read.{onto_read}
 use Rattle.orders.proofs.gates.random_words_of.Given as goal
 

@@ -1,7 +1,7 @@
 use Rattle.std.proofs.Common.{Err, sym, ap, ◌∙◌, arith}
 use Rattle.std.proofs.lemmas.List.{at_drop_all}
 use Rattle.std.proofs.lemmas.Result.{err_from_is_err_and}
-use Rattle.reading.specs.Text.{hex_of}
+use Rattle.orders.specs.Text.{hex_of}
 use Rattle.planlines.specs.Grammar.{all_read}
 use Rattle.planlines.proofs.ReadAll.{read_more, read_stop}
 use Rattle.planlines.proofs.lists.digits_read.Goals as goal

@@ -1,5 +1,5 @@
 use Rattle.std.proofs.Common.{◌≡◌, drop}
-use Rattle.reading.specs.Text.{hex_of}
+use Rattle.orders.specs.Text.{hex_of}
 use Rattle.planlines.specs.Grammar.{all_read}
 use Rattle.planlines.proofs.lists.digits_read.Given as goal
 

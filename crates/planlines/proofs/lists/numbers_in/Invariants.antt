@@ -1,5 +1,5 @@
 use Rattle.std.proofs.Common.{◌≡◌, drop}
-use Rattle.reading.specs.Text.{decimal_of, pieces}
+use Rattle.orders.specs.Text.{decimal_of, pieces}
 use Rattle.planlines.specs.Grammar.{all_read}
 use Rattle.planlines.proofs.lists.numbers_in.Given as goal
 

@@ -15,5 +15,5 @@ number_bytes j h = ap (λ (l : List ℕ). word_bytes 0 ++ (word_bytes 0 ++ (word
 
 pub returns : goal.returns
 returns c =
-    c.to-bytes.ensures ∙ c.encrypt-block.ensures
+    c.to_bytes.ensures ∙ c.encrypt_block.ensures
     ∙ ap (λ (l : List ℕ). cipher (key_of c.args.self.now) l) (number_bytes c.args.j (omega arith))

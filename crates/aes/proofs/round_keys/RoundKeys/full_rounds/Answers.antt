@@ -8,4 +8,4 @@ unfolding full_rounds
 loop-i-init c = refl
 
 pub loop-i-preserved : goal.loop-i-preserved
-loop-i-preserved c = one_more_round c.loop-i.i _ _ _ _ _ c.full-round-state.ensures c.round-key.ensures c.loop-i.invariant
+loop-i-preserved c = one_more_round c.loop-i.i _ _ _ _ _ c.full_round-state.ensures c.round_key.ensures c.loop-i.invariant

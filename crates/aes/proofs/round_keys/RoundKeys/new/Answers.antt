@@ -4,5 +4,5 @@ use Rattle.aes.proofs.round_keys.RoundKeys.new.Goals as goal
 
 pub returns : goal.returns
 returns c =
-    let first = c.expanded-keys.ensures.first ∙ c.from-bytes.ensures in
-    record { key = first; round-keys = λ i h. c.expanded-keys.ensures.scheduled i h ∙ ap (round_key i) first }
+    let first = c.expanded-keys.ensures.first ∙ c.from_bytes.ensures in
+    record { key = first; round_keys = λ i h. c.expanded-keys.ensures.scheduled i h ∙ ap (round_key i) first }
