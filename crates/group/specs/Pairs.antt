@@ -1,5 +1,5 @@
 -- The pair of two groups, part by part.
-use Rattle.std.specs.Prelude.{◌≡◌, ◌+◌, ◌%◌, min}
+use Rattle.std.specs.Prelude.{◌+◌, ◌%◌, min}
 use Rattle.group.specs.Groups.{GroupLaws, OutputGroup}
 
 module _ {M N : Type 0} where
