@@ -1,11 +1,11 @@
 -- The questions as the code asks them are the questions of the rules.
-use Rattle.std.proofs.Common.{◌≡◌, ℕ, ◌^◌, ◌<◌, ◌≤◌, Bool, true, ◌&&◌, eqb, ltb, leb, List, [], ◌∷◌, Ok, Err, sym, refl, ap, ◌∙◌}
-use Rattle.std.proofs.lemmas.Bool.{ltb-true, eqb-true}
+use Rattle.std.proofs.Common.{◌≡◌, ℕ, Bool, true, ◌&&◌, eqb, leb, List, [], ◌∷◌, Ok, Err, sym, ap, ◌∙◌}
+use Rattle.std.proofs.lemmas.Bool.{eqb-true}
 use Rattle.refusal.specs.declared.Refusal.{Refusal}
 use Rattle.refusal.specs.declared.Refusal.TheVariants.{KeyWidth, KeyRange, KeyRows, KeyWords}
 use Rattle.refusal.specs.Questions.{answered}
 use Rattle.refusal.proofs.Answered.{refused_alike, answered_alike, first_yes, rest_yes}
-use Rattle.comparison.specs.Questions.{asks_for, asked_all, is_in_range}
+use Rattle.comparison.specs.Questions.{asks_for, asked_all}
 
 -- b, r and k are what the code worked out for the rules' own b', r' and k'
 module _ (w : ℕ) {b b' : Bool} {r r' k k' : ℕ} (fits : b ≡ b') (rows : r ≡ r') (words : k ≡ k') where

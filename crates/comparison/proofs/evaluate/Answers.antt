@@ -1,4 +1,4 @@
-use Rattle.std.proofs.Common.{◌≡◌, Ok, Err, sym, refl, ap, ◌∙◌}
+use Rattle.std.proofs.Common.{Ok, Err, sym, ap, ◌∙◌}
 use Rattle.std.proofs.lemmas.Result.{err_from_is_err_and}
 use Rattle.key.specs.Rows.{is_one}
 use Rattle.evaluation.specs.Evaluation.{evaluated}
@@ -6,16 +6,16 @@ use Rattle.comparison.specs.Comparison.{answer_mean}
 use Rattle.comparison.proofs.Asked.{refused, accepted}
 use Rattle.comparison.proofs.evaluate.Goals as goal
 
-pub returns-in-err-ask-key : goal.returns-in-err-ask-key
-returns-in-err-ask-key g c =
-    let p = err_from_is_err_and c.from-residual.result c.from-residual.ensures.1 in
-    ap (answer_mean g.G.Group.mean) p.1 ∙ sym (refused c.args.width c.in-range.ensures c.count.ensures c.words.ensures.count _ p.0
-    (ap Err p.2 ∙ c.in-err-ask-key.ensures))
+pub returns-in_err-ask_key : goal.returns-in_err-ask_key
+returns-in_err-ask_key g c =
+    let p = err_from_is_err_and c.from_residual.result c.from_residual.ensures.1 in
+    ap (answer_mean g.G.Group.mean) p.1 ∙ sym (refused c.args.width c.in_range.ensures c.count.ensures c.words.ensures.count _ p.0
+    (ap Err p.2 ∙ c.in_err-ask_key.ensures))
 
 pub returns : goal.returns
 returns g c =
     let m = g.G.Group in
     let read = ap (λ rs. evaluated g.X.Expander.meaning m.group m.mean (is_one c.args.number) c.args.root rs c.args.last c.args.point)
-    c.as-slice.ensures in
-    ap Ok (c.answer.ensures ∙ read) ∙ sym (accepted c.args.width c.in-range.ensures c.count.ensures c.words.ensures.count
-    c.in-ok-ask-key.field-0 _ c.in-ok-ask-key.ensures)
+    c.as_slice.ensures in
+    ap Ok (c.answer.ensures ∙ read) ∙ sym (accepted c.args.width c.in_range.ensures c.count.ensures c.words.ensures.count
+    c.in_ok-ask_key.field-0 _ c.in_ok-ask_key.ensures)

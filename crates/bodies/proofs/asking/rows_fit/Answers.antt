@@ -7,19 +7,19 @@ step : (size : ℕ) (key : List ℕ) (n m at : ℕ) (v : Bool) → n ≡ suc m �
     → rows_fit size key n at ≡ (v && rows_fit size key m (at + (17 + size)))
 step size key n m at v e f = ap (λ x. rows_fit size key x at) e ∙ ap (λ (x : Bool). x && rows_fit size key m (at + (17 + size))) (sym f)
 
-pub returns-then-not-bits-fit : goal.returns-then-not-bits-fit
-returns-then-not-bits-fit c =
-    let e : c.args.rows - c.loop-row.-row ≡ suc (c.args.rows - (c.loop-row.-row + 1)) = omega arith in
-    let f = c.if-not-bits-fit.ensures ∙ ap (λ v. leb v 3) c.byte-in.ensures in
+pub returns-then-not-bits_fit : goal.returns-then-not-bits_fit
+returns-then-not-bits_fit c =
+    let e : c.args.rows - c.loop-row._row ≡ suc (c.args.rows - (c.loop-row._row + 1)) = omega arith in
+    let f = c.if-not-bits_fit.ensures ∙ ap (λ v. leb v 3) c.byte_in.ensures in
     sym (step _ _ _ _ c.loop-row.at false e f) ∙ c.loop-row.invariant.0
 
 pub loop-row-preserved : goal.loop-row-preserved
 loop-row-preserved c =
-    let e : c.args.rows - c.loop-row.-row ≡ suc (c.args.rows - (c.loop-row.-row + 1)) = omega arith in
-    let f = c.if-not-bits-fit.ensures ∙ ap (λ v. leb v 3) c.byte-in.ensures in
+    let e : c.args.rows - c.loop-row._row ≡ suc (c.args.rows - (c.loop-row._row + 1)) = omega arith in
+    let f = c.if-not-bits_fit.ensures ∙ ap (λ v. leb v 3) c.byte_in.ensures in
     (sym (step _ _ _ _ c.loop-row.at true e f) ∙ c.loop-row.invariant.0, omega arith)
 
 pub returns : goal.returns
 returns c =
-    let e : c.args.rows - c.loop-row.-row ≡ 0 = omega arith in
+    let e : c.args.rows - c.loop-row._row ≡ 0 = omega arith in
     sym (ap (λ n. rows_fit c.args.size c.args.key.now n c.loop-row.at) e) ∙ c.loop-row.invariant.0
