@@ -14,7 +14,7 @@ returns-in-err-hex-digit c =
 
 pub loop-b-preserved : goal.loop-b-preserved
 loop-b-preserved c =
-    c.loop-b.invariant ∙ read_more hex_of c.args.word.now c.loop-b.b-index 0 (omega arith) _ c.in-ok-hex-digit.ensures
+    c.loop-b.invariant ∙ read_more hex_of c.args.word.now c.loop-b.b-index 0 (omega arith) _ c.in_ok-hex_digit.ensures
 
 pub returns : goal.returns
 returns c = sym (c.loop-b.invariant ∙ at_drop_all (all_read hex_of) c.args.word.now c.loop-b.b-index (omega arith))

@@ -20,11 +20,11 @@ pub loop-k-preserved : goal.loop-k-preserved
 loop-k-preserved c =
     let ps = pieces 44 c.args.word.now in
     let read = decimal_of c.args.most in
-    let said = c.in-ok-decimal.ensures.is ∙ ap read c.piece-at.ensures in
-    c.loop-k.invariant ∙ read_more read ps c.loop-k.k [] (omega (arith, c.pieces-of-count.ensures)) _ said
+    let said = c.in_ok-decimal.ensures.is ∙ ap read c.piece_at.ensures in
+    c.loop-k.invariant ∙ read_more read ps c.loop-k.k [] (omega (arith, c.pieces_of-count.ensures)) _ said
 
 pub returns : goal.returns
 returns c =
     let ps = pieces 44 c.args.word.now in
-    let end = at_drop_all (all_read (decimal_of c.args.most)) ps c.loop-k.k (omega (arith, c.pieces-of-count.ensures)) in
-    ap Ok c.pieces-of-count.ensures ∙ sym (ap (λ r. and_then r (λ all. Ok (length ps))) (c.loop-k.invariant ∙ end))
+    let end = at_drop_all (all_read (decimal_of c.args.most)) ps c.loop-k.k (omega (arith, c.pieces_of-count.ensures)) in
+    ap Ok c.pieces_of-count.ensures ∙ sym (ap (λ r. and_then r (λ all. Ok (length ps))) (c.loop-k.invariant ∙ end))
