@@ -1,4 +1,4 @@
-use Rattle.std.proofs.Common.{◌≡◌, length, ap, ◌∙◌, rules}
+use Rattle.std.proofs.Common.{length, ap, ◌∙◌, rules}
 use Rattle.dealing.specs.Dealing.{dealt_last, start}
 use Rattle.bench.specs.Workloads.{place, root}
 use Rattle.bench.proofs.Chain.{added}

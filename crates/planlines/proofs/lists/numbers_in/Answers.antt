@@ -1,9 +1,9 @@
-use Rattle.std.proofs.Common.{◌≡◌, [], length, Ok, Err, sym, ap, ◌∙◌, arith}
+use Rattle.std.proofs.Common.{[], length, Ok, Err, sym, ap, ◌∙◌, arith}
 use Rattle.std.proofs.lemmas.List.{at_drop_all}
 use Rattle.std.proofs.lemmas.Result.{err_from_is_err_and}
 use Rattle.orders.specs.Grammar.{and_then}
 use Rattle.orders.specs.Text.{decimal_of, pieces}
-use Rattle.planlines.specs.Grammar.{all_read, numbers_in}
+use Rattle.planlines.specs.Grammar.{all_read}
 use Rattle.planlines.proofs.ReadAll.{read_more, read_stop}
 use Rattle.planlines.proofs.lists.numbers_in.Goals as goal
 
