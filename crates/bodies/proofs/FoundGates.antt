@@ -1,5 +1,5 @@
 -- The wire that a body of its layout tells.
-use Rattle.std.proofs.Common.{◌≡◌, ℕ, zero, suc, ◌+◌, ◌*◌, ◌^◌, ◌<◌, ◌≤◌, Bool, true, false, cond, ◌&&◌, eqb, ltb, leb, ◌⊎◌, List, [], ◌∷◌, ◌++◌, length, get_or, drop, Some, None, Option, sym, refl, ap, ◌∙◌, subst, inl, inr, append-nil, arith, length-drop}
+use Rattle.std.proofs.Common.{◌≡◌, ℕ, zero, suc, ◌+◌, ◌*◌, ◌^◌, ◌<◌, ◌≤◌, Bool, true, false, cond, ◌&&◌, eqb, ltb, leb, ◌⊎◌, List, [], ◌∷◌, ◌++◌, length, get_or, drop, Some, None, Option, sym, refl, ap, ◌∙◌, subst, inl, inr, arith, length-drop}
 use Rattle.std.proofs.lemmas.List.{drop_more, drop-drop, nil_from_length}
 use Rattle.std.proofs.lemmas.Bool.{and_parts, false≢true, eqb-true, eqb-false, leb-true, ltb-true}
 use Rattle.plan.specs.Questions.{below}
@@ -12,7 +12,7 @@ use Rattle.bodies.specs.declared.GateHead.{GateHead}
 use Rattle.bodies.specs.declared.GateHead.TheVariants.{Sum, Scale, Product, Piece, Flag, Shift, SignedShift, Xor}
 use Rattle.bodies.specs.Parts.{Bytes}
 use Rattle.bodies.specs.Heads.{lone, head_of, gives_flag, head_fits, parameters_long, compared_long, key_long}
-use Rattle.bodies.specs.Bodies.{when, shown_in, rest_in, head_in, rows_fit, shift_key_fits, key_fits, mask_fits, rest_fits, gate_fits, input_fits}
+use Rattle.bodies.specs.Bodies.{shown_in, rest_in, head_in, rows_fit, shift_key_fits, key_fits, mask_fits, rest_fits, gate_fits, input_fits}
 use Rattle.bodies.specs.Allowed.{head, key_allowed, mask_allowed, GateAllowed, input_allowed}
 use Rattle.bodies.proofs.Numbers.{below_tells}
 use Rattle.bodies.proofs.Spread.{drop_bytes, number_split, number_drop, number_small, flag_from, flag_back, quad_from, quad_back}

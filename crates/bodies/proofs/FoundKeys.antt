@@ -1,13 +1,12 @@
 -- A comparison key, an interval gate's key and a shift's key, from bytes of their layout.
-use Rattle.std.proofs.Common.{◌≡◌, ℕ, zero, suc, ◌+◌, ◌-◌, ◌*◌, ◌^◌, ◌<◌, ◌≤◌, Bool, true, false, cond, ◌&&◌, ◌||◌, eqb, leb, List, [], ◌∷◌, ◌++◌, length, get_or, take, drop, sym, refl, ap, ◌∙◌, append_assoc, append-nil, zero-add, arith, length-append, length-drop, take-append-drop}
+use Rattle.std.proofs.Common.{◌≡◌, ℕ, zero, suc, ◌+◌, ◌*◌, ◌≤◌, Bool, true, ◌&&◌, ◌||◌, eqb, leb, List, [], ◌∷◌, ◌++◌, length, get_or, take, drop, sym, refl, ap, ◌∙◌, append_assoc, append-nil, arith, length-drop, take-append-drop}
 use Rattle.std.proofs.lemmas.List.{get_or-drop, drop-drop, drop_more, length-take-le, nil_from_length}
 use Rattle.std.proofs.lemmas.Bool.{and_parts, leb-true}
-use Rattle.expander.specs.declared.Seed.{Seed}
 use Rattle.key.specs.declared.Row.{Row}
 use Rattle.shares.specs.Words.{Word}
 use Rattle.stored.specs.Forms.{four_bytes}
 use Rattle.layout.specs.Bytes.{front, number_at}
-use Rattle.layout.specs.Keys.{Compared, seed_bytes, bits, row_bytes, rows_bytes, compared_bytes, word_bytes}
+use Rattle.layout.specs.Keys.{Compared, bits, row_bytes, rows_bytes, compared_bytes, word_bytes}
 use Rattle.layout.specs.Wires.{interval_bytes, shift_bytes}
 use Rattle.bodies.specs.Parts.{Bytes}
 use Rattle.bodies.specs.Heads.{compared_long}

@@ -1,9 +1,7 @@
 -- The bytes of a comparison key: how many there are, and the rows' bits among them.
-use Rattle.std.proofs.Common.{◌≡◌, ℕ, ◌+◌, ◌*◌, ◌^◌, ◌<◌, ◌≤◌, Bool, true, false, cond, ◌&&◌, leb, List, [], ◌∷◌, ◌++◌, length, get_or, sym, refl, ap, ◌∙◌, append_assoc, arith, length-append}
-use Rattle.expander.specs.declared.Seed.{Seed}
+use Rattle.std.proofs.Common.{◌≡◌, ℕ, ◌+◌, ◌*◌, Bool, true, false, ◌&&◌, leb, List, [], ◌∷◌, ◌++◌, length, get_or, sym, refl, ap, ◌∙◌, append_assoc, arith, length-append}
 use Rattle.key.specs.declared.Row.{Row}
-use Rattle.std.proofs.lemmas.Bool.Decides.{nat_tests}
-use Rattle.layout.specs.Keys.{Compared, seed_bytes, bits, row_bytes, rows_bytes, key_bytes, compared_bytes}
+use Rattle.layout.specs.Keys.{Compared, seed_bytes, bits, row_bytes, rows_bytes, compared_bytes}
 use Rattle.bodies.specs.Heads.{compared_long}
 use Rattle.bodies.specs.Bodies.{rows_fit}
 use Rattle.bodies.proofs.Numbers.{byte_at}

@@ -1,7 +1,6 @@
 -- A body of its layout has at most 1,700 bytes, an input's at most 5.
 use Rattle.std.proofs.Common.{◌≡◌, ℕ, ◌+◌, ◌*◌, ◌<◌, ◌≤◌, Bool, true, false, cond, ◌&&◌, eqb, ltb, leb, List, length, get_or, drop, Some, None, Option, arith, length-drop}
 use Rattle.std.proofs.lemmas.Bool.{and_parts, false≢true, eqb-true, leb-true, ltb-true}
-use Rattle.std.proofs.lemmas.Bool.Decides.{nat_tests}
 use Rattle.plan.specs.Questions.{below, shift_fits}
 use Rattle.layout.specs.Bytes.{number_at}
 use Rattle.bodies.specs.declared.GateHead.{GateHead}

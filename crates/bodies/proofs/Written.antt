@@ -1,5 +1,5 @@
 -- A wire whose fields are allowed has a body that is of its layout, and that reads back.
-use Rattle.std.proofs.Common.{◌≡◌, ℕ, ◌+◌, ◌*◌, ◌^◌, ◌<◌, ◌≤◌, Bool, true, false, cond, ◌&&◌, eqb, ltb, leb, List, [], ◌∷◌, ◌++◌, length, get_or, drop, Some, None, Option, sym, refl, ap, ◌∙◌, append_assoc, arith, length-append}
+use Rattle.std.proofs.Common.{◌≡◌, ℕ, ◌+◌, ◌^◌, ◌<◌, ◌≤◌, Bool, true, false, cond, ◌&&◌, eqb, ltb, leb, List, [], ◌∷◌, ◌++◌, length, drop, Some, None, Option, sym, refl, ap, ◌∙◌, append_assoc, arith, length-append}
 use Rattle.std.proofs.lemmas.Bool.Decides.{nat_tests}
 use Rattle.std.proofs.lemmas.Bool.{and_parts, eq-eqb, ne_eqb, le-leb}
 use Rattle.group.specs.Residues.{Residue}
@@ -10,11 +10,10 @@ use Rattle.layout.specs.Bytes.{number_at}
 use Rattle.layout.specs.Keys.{Compared, compared_bytes, word_bytes, flag_bytes, quad_bytes}
 use Rattle.layout.specs.Wires as wire
 use Rattle.layout.specs.Wires.{Gate, kind, first, second, parameter_bytes, interval_bytes, shift_bytes, gate_key_bytes, wire_bytes, gate, input}
-use Rattle.bodies.specs.declared.GateHead.{GateHead}
-use Rattle.bodies.specs.declared.GateHead.TheVariants.{Sum, Scale, Product, Piece, Flag, Shift, SignedShift, Xor}
+use Rattle.bodies.specs.declared.GateHead.TheVariants.{Scale, Piece, Flag}
 use Rattle.bodies.specs.declared.WireBody.TheVariants.{Input}
 use Rattle.bodies.specs.Heads.{head_of, gives_flag, head_fits, parameters_long, compared_long, key_long}
-use Rattle.bodies.specs.Bodies.{when, input_in, shown_in, rest_in, head_in, rows_fit, shift_key_fits, key_fits, mask_fits, rest_fits, gate_fits, input_fits}
+use Rattle.bodies.specs.Bodies.{when, input_in, shown_in, head_in, rows_fit, shift_key_fits, key_fits, mask_fits, rest_fits, gate_fits, input_fits}
 use Rattle.bodies.specs.Allowed.{head, key_allowed, mask_allowed, GateAllowed, input_allowed}
 use Rattle.bodies.proofs.Numbers.{number_four, number_back, below_from, below_tells, small}
 use Rattle.bodies.proofs.Keys.{compared_is_long, key_rows_fit}

@@ -1,5 +1,5 @@
 -- The element at the end of bytes.
-use Rattle.std.proofs.Common.{◌≡◌, ℕ, ◌+◌, ◌-◌, ◌≤◌, min, List, ◌++◌, length, take, drop, sym, ap, ◌∙◌, arith, length-append, take-append-drop, drop_at}
+use Rattle.std.proofs.Common.{◌≡◌, ℕ, ◌-◌, ◌≤◌, min, List, ◌++◌, length, take, drop, sym, ap, ◌∙◌, arith, length-append, take-append-drop, drop_at}
 use Rattle.keyform.specs.GateKeys.{LastIn, LastRead}
 use Rattle.keyform.proofs.Told.{same_front}
 

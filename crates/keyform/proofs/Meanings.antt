@@ -8,7 +8,7 @@ use Rattle.group.specs.declared.Word as code
 use Rattle.key.specs.declared.Row.{Row}
 use Rattle.key.specs.Rows.{row_mean}
 use Rattle.stored.specs.Bytes.{four_same, eight_same}
-use Rattle.shares.specs.Words.{Word, word, Quad, quad, flag_word}
+use Rattle.shares.specs.Words.{word, Quad, quad, flag_word}
 use Rattle.layout.specs.Keys.{bits, seed_bytes, row_bytes, rows_bytes, key_bytes, word_bytes, flag_bytes, quad_bytes}
 use Rattle.keyform.specs.Forms.{word_form, flag_form, quad_form}
 

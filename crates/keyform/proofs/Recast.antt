@@ -1,5 +1,5 @@
 -- Keys in memory and keys of meanings have the same bytes: from one to the other, either way.
-use Rattle.std.proofs.Common.{◌≡◌, ℕ, ◌^◌, List, ◌++◌, map, length, sym, refl, ap, ◌∙◌}
+use Rattle.std.proofs.Common.{◌≡◌, ℕ, ◌^◌, List, ◌++◌, map, sym, refl, ap, ◌∙◌}
 use Rattle.std.proofs.lemmas.List.{length-map}
 use Rattle.group.specs.Residues.{Residue}
 use Rattle.group.specs.declared.Flags.{Flags}

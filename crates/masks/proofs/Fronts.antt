@@ -1,5 +1,5 @@
 -- A list that is the front of another, read element by element.
-use Rattle.std.proofs.Common.{◌≡◌, ℕ, zero, suc, ◌+◌, ◌<◌, List, [], ◌∷◌, length, get_or, drop, sym, refl, ap, ◌∙◌, one-add, arith, get_or-drop}
+use Rattle.std.proofs.Common.{◌≡◌, ℕ, zero, suc, ◌<◌, List, [], ◌∷◌, length, get_or, drop, sym, refl, ap, ◌∙◌, one-add, arith, get_or-drop}
 use Rattle.layout.specs.Bytes.{front}
 
 pub is_front : (n : ℕ) (own xs : List ℕ) → length own ≡ n → ((k : ℕ) → k < n → get_or own k 0 ≡ get_or xs k 0) → own ≡ front n xs

@@ -1,5 +1,5 @@
 -- The mask of every wire: inputs and keyed gates from their random word, local gates by the local rule.
-use Rattle.std.specs.Prelude.{ℕ, zero, suc, ◌%◌, ◌^◌, Bool, cond, List, replicate, slice_index, slice_set}
+use Rattle.std.specs.Prelude.{ℕ, zero, suc, ◌%◌, ◌^◌, cond, List, replicate, slice_index, slice_set}
 use Rattle.shares.specs.Local.{sum_of, scale_mask, xor_of}
 use Rattle.plan.specs.declared.GateBody.{GateBody}
 use Rattle.plan.specs.declared.GateBody.TheVariants.{Sum, Scale, Product, Piece, Flag, Shift, SignedShift, Xor}

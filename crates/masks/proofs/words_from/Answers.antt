@@ -1,4 +1,4 @@
-use Rattle.std.proofs.Common.{◌≡◌, ◌+◌, ◌<◌, ◌≢◌, length, drop, sym, ap, ◌∙◌, arith, length-set, get_or-drop, get_or-set_other, get_or-set_same, below_more}
+use Rattle.std.proofs.Common.{◌<◌, ◌≢◌, length, drop, sym, ◌∙◌, arith, length-set, get_or-drop, get_or-set_other, get_or-set_same, below_more}
 use lib.ListN.{length-replicate}
 use Rattle.masks.proofs.Fronts.{is_front}
 use Rattle.masks.proofs.words_from.Goals as goal
@@ -11,10 +11,10 @@ loop-i-preserved g c =
     let own = c.loop-i.own in
     let i = c.loop-i.i in
     let lt : i < length own = omega (arith, c.loop-i.invariant.0) in (
-      length-set own i c.word-in.result ∙ c.loop-i.invariant.0,
+      length-set own i c.word_in.result ∙ c.loop-i.invariant.0,
       below_more _ _
           (λ j h. let ne : j ≢ i = omega arith in get_or-set_other own i j _ 0 ne ∙ c.loop-i.invariant.1 j h)
-          (get_or-set_same own i _ 0 lt ∙ c.word-in.ensures),
+          (get_or-set_same own i _ 0 lt ∙ c.word_in.ensures),
     )
 
 pub returns : goal.returns

@@ -7,12 +7,12 @@ returns-in-Some g c =
     let form = g.G.StoredGroup.form in
     let bytes = c.args.bytes.now in
     let count = c.args.count in
-    let key = c.front-of.result.now in
+    let key = c.front_of.result.now in
     let tail = c.in-Some.tail in
     let read = c.in-Some.ensures in (
-      λ e. interval_in form count bytes key tail read c.front-of.ensures (c.key-fits.ensures.0 e),
-      λ i. c.key-fits.ensures.1 (before_tail form g.G.StoredGroup.size g.met.G.StoredGroup.sized count bytes
-          key tail read c.front-of.ensures i),
+      λ e. interval_in form count bytes key tail read c.front_of.ensures (c.key_fits.ensures.0 e),
+      λ i. c.key_fits.ensures.1 (before_tail form g.G.StoredGroup.size g.met.G.StoredGroup.sized count bytes
+          key tail read c.front_of.ensures i),
     )
 
 pub returns-in-None : goal.returns-in-None

@@ -8,22 +8,22 @@ pub returns-then-bytes-size : goal.returns-then-bytes-size
 returns-then-bytes-size g c i =
     let h = last_long g.G.StoredGroup.form g.G.StoredGroup.size g.met.G.StoredGroup.sized
     c.args.bytes.now i in
-    omega (arith, h, c.if-bytes-size.true, c.size-of-size.ensures)
+    omega (arith, h, c.if-bytes-size.true, c.size_of-size.ensures)
 
-pub returns-in-err-element : goal.returns-in-err-element
-returns-in-err-element g c =
+pub returns-in_err-element : goal.returns-in_err-element
+returns-in_err-element g c =
     let bytes = c.args.bytes.now in
-    let size = c.size-of-size.result in
+    let size = c.size_of-size.result in
     let few : length bytes ≤ most = omega arith in
-    rw c.from-residual.ensures (λ i.
-    c.in-err-element.ensures i.last
+    rw c.from_residual.ensures (λ i.
+    c.in_err-element.ensures i.last
     (last_there g.G.StoredGroup.form g.G.StoredGroup.size g.met.G.StoredGroup.sized size most bytes
-    c.size-of-size.ensures few i
+    c.size_of-size.ensures few i
     ∙ sym (take_rest bytes (length bytes - size))))
 
 pub returns : goal.returns
 returns g c =
     let bytes = c.args.bytes.now in
-    let size = c.size-of-size.result in
-    last_read g.G.StoredGroup.form size bytes c.in-ok-element.element (omega (arith, c.if-bytes-size.false))
-    (c.in-ok-element.ensures ∙ take_rest bytes (length bytes - size))
+    let size = c.size_of-size.result in
+    last_read g.G.StoredGroup.form size bytes c.in_ok-element.element (omega (arith, c.if-bytes-size.false))
+    (c.in_ok-element.ensures ∙ take_rest bytes (length bytes - size))

@@ -9,14 +9,14 @@ returns-in-Some c =
     let bytes = c.args.bytes.now in
     let low = c.args.low in
     let high = c.args.high in
-    let keys = c.front-of.result.now in
+    let keys = c.front_of.result.now in
     let rest = c.in-Some.rest in
     let last = c.in-Some.ensures in (
       λ e. shift_in word_form low high bytes keys rest.element
-          (behind flag_form bytes keys rest.start rest.element last c.front-of.ensures)
-          (c.two-keys-fit.ensures.0 e),
-      λ i. c.two-keys-fit.ensures.1 (without_rest word_form low high bytes keys rest.start rest.element last
-          c.front-of.ensures i),
+          (behind flag_form bytes keys rest.start rest.element last c.front_of.ensures)
+          (c.two_keys_fit.ensures.0 e),
+      λ i. c.two_keys_fit.ensures.1 (without_rest word_form low high bytes keys rest.start rest.element last
+          c.front_of.ensures i),
     )
 
 pub returns-in-None : goal.returns-in-None

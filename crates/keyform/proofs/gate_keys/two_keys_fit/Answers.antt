@@ -13,31 +13,31 @@ returns-then-bytes-size c =
     let bytes = c.args.bytes.now in
     let few : length bytes ≤ most = omega arith in
     decided_no (λ t.
-    let p = two_there word_form 8 word_sized c.args.low c.args.high c.word-key-size-size.result most bytes
-    c.word-key-size-size.ensures few t in
+    let p = two_there word_form 8 word_sized c.args.low c.args.high c.word_key_size-size.result most bytes
+    c.word_key_size-size.ensures few t in
     omega (arith, p.0, c.if-bytes-size.true))
 
-pub returns-then-not-key-fits : goal.returns-then-not-key-fits
-returns-then-not-key-fits c =
+pub returns-then-not-key_fits : goal.returns-then-not-key_fits
+returns-then-not-key_fits c =
     let bytes = c.args.bytes.now in
     let few : length bytes ≤ most = omega arith in
     decided_no (λ t.
-    let p = two_there word_form 8 word_sized c.args.low c.args.high c.word-key-size-size.result most bytes
-    c.word-key-size-size.ensures few t in
-    let k : KeyIn word_form c.args.low c.front-of.result.now = rw c.front-of.ensures p.1 in
-    both_ways c.key-fits.result c.if-not-key-fits.true (c.key-fits.ensures.1 k))
+    let p = two_there word_form 8 word_sized c.args.low c.args.high c.word_key_size-size.result most bytes
+    c.word_key_size-size.ensures few t in
+    let k : KeyIn word_form c.args.low c.front_of.result.now = rw c.front_of.ensures p.1 in
+    both_ways c.key_fits.result c.if-not-key_fits.true (c.key_fits.ensures.1 k))
 
 pub returns : goal.returns
 returns c =
     let bytes = c.args.bytes.now in
     let low = c.args.low in
     let high = c.args.high in
-    let size = c.word-key-size-size.result in
+    let size = c.word_key_size-size.result in
     let few : length bytes ≤ most = omega arith in
-    let l : KeyIn word_form low (take size bytes) = rw (← c.front-of.ensures)
-    (c.key-fits.ensures.0 c.if-not-key-fits.false) in (
-      λ e. two_in word_form low high size bytes l (rw (take_rest bytes size) at (c.key-fits-2.ensures.0 e)),
-      λ t. c.key-fits-2.ensures.1
+    let l : KeyIn word_form low (take size bytes) = rw (← c.front_of.ensures)
+    (c.key_fits.ensures.0 c.if-not-key_fits.false) in (
+      λ e. two_in word_form low high size bytes l (rw (take_rest bytes size) at (c.key_fits-2.ensures.0 e)),
+      λ t. c.key_fits-2.ensures.1
           (rw (take_rest bytes size) (two_there word_form 8 word_sized low high size most bytes
-          c.word-key-size-size.ensures few t).2),
+          c.word_key_size-size.ensures few t).2),
     )

@@ -7,7 +7,7 @@ use Rattle.keyform.proofs.reading.fill.Given as given
 use Rattle.keyform.proofs.reading.fill.Goals as goal
 
 -- the row at hand lies within the bytes
-within : (g : given.Over) (c : goal.In-loop-i g) → c.loop-i.at + c.row-size-size.result ≤ length c.args.bytes.now
+within : (g : given.Over) (c : goal.In-loop-i g) → c.loop-i.at + c.row_size-size.result ≤ length c.args.bytes.now
 within g c =
     let s = g.G.StoredGroup in
     let n = length c.args.rows.now.rows.now in
@@ -15,27 +15,27 @@ within g c =
     let inv = c.loop-i.invariant in
     let is : n - i ≡ suc (n - (i + 1)) = omega (arith, c.loop-i-test.true, c.count-i-end.ensures) in
     room s.form s.size g.met.G.StoredGroup.sized (n - (i + 1)) (n - i) c.loop-i.at
-    c.row-size-size.result most c.args.bytes.now is
-    c.row-size-size.ensures inv.2 inv.3
+    c.row_size-size.result most c.args.bytes.now is
+    c.row_size-size.ensures inv.2 inv.3
 
-pub overflow-add-end : goal.overflow-add-end
-overflow-add-end g c = let h = within g c in search rules
+pub overflow_add-end : goal.overflow_add-end
+overflow_add-end g c = let h = within g c in search rules
 
-pub slice-bounds-read-row-end : goal.slice-bounds-read-row-end
-slice-bounds-read-row-end g c = let h = within g c in search rules
+pub slice_bounds-read_row-end : goal.slice_bounds-read_row-end
+slice_bounds-read_row-end g c = let h = within g c in search rules
 
-pub returns-in-default : goal.returns-in-default
-returns-in-default g c =
+pub returns-in_default : goal.returns-in_default
+returns-in_default g c =
     let s = g.G.StoredGroup in
     let n = length c.args.rows.now.rows.now in
     let i = c.loop-i.i in
     let inv = c.loop-i.invariant in
     let is : n - i ≡ suc (n - (i + 1)) = omega (arith, c.loop-i-test.true, c.count-i-end.ensures) in
     let few : length c.args.bytes.now ≤ most = omega arith in
-    absurd (c.in-default.ensures
+    absurd (c.in_default.ensures
     (row_there s.form s.size g.met.G.StoredGroup.sized (n - (i + 1)) (n - i) c.loop-i.at
-    c.row-size-size.result most c.args.bytes.now is
-    c.row-size-size.ensures few inv.3))
+    c.row_size-size.result most c.args.bytes.now is
+    c.row_size-size.ensures few inv.3))
 
 pub loop-i-preserved : goal.loop-i-preserved
 loop-i-preserved g c =
@@ -45,7 +45,7 @@ loop-i-preserved g c =
     let bytes = c.args.bytes.now in
     let i = c.loop-i.i in
     let at = c.loop-i.at in
-    let w = c.row-size-size.result in
+    let w = c.row_size-size.result in
     let inv = c.loop-i.invariant in
     let row = c.in-Some.row in
     let is : n - i ≡ suc (n - (i + 1)) = omega (arith, c.loop-i-test.true, c.count-i-end.ensures) in
@@ -56,9 +56,9 @@ loop-i-preserved g c =
       ap length put ∙ length-set xs i row ∙ inv.0,
       c.put.ensures.same ∙ inv.1,
       room s.form s.size g.met.G.StoredGroup.sized (n - (i + 1)) (n - i) at w most bytes is
-          c.row-size-size.ensures inv.2 inv.3,
+          c.row_size-size.ensures inv.2 inv.3,
       rows_there s.form s.size g.met.G.StoredGroup.sized (n - (i + 1)) (n - i) at w most bytes is
-          c.row-size-size.ensures few inv.3,
+          c.row_size-size.ensures few inv.3,
       ap (λ ys. rows_bytes s.form (take (i + 1) ys)) put ∙ rows_put s.form xs i at w row bytes lt inv.4 read,
       subst (λ ys. WholeRows (take (i + 1) ys)) (sym put) (whole_put xs i row lt inv.5 read.whole),
     )

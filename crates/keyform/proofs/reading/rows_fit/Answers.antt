@@ -13,12 +13,12 @@ returns-then-bytes-at g c =
     let is : left ≡ suc (left - 1) = omega (arith, c.loop-left-test.true) in
     decided_no (λ t.
     let r = room s.form s.size g.met.G.StoredGroup.sized (left - 1) left c.loop-left.at
-    c.row-size-size.result most c.args.bytes.now is
-    c.row-size-size.ensures inv.0 (inv.2 t) in
+    c.row_size-size.result most c.args.bytes.now is
+    c.row_size-size.ensures inv.0 (inv.2 t) in
     omega (arith, r, c.if-bytes-at.true))
 
-pub returns-then-not-row-fits : goal.returns-then-not-row-fits
-returns-then-not-row-fits g c =
+pub returns-then-not-row_fits : goal.returns-then-not-row_fits
+returns-then-not-row_fits g c =
     let s = g.G.StoredGroup in
     let left = c.loop-left.left in
     let inv = c.loop-left.invariant in
@@ -26,9 +26,9 @@ returns-then-not-row-fits g c =
     let few : length c.args.bytes.now ≤ most = omega arith in
     decided_no (λ t.
     let i = row_there s.form s.size g.met.G.StoredGroup.sized (left - 1) left c.loop-left.at
-    c.row-size-size.result most c.args.bytes.now
-    is c.row-size-size.ensures few (inv.2 t) in
-    both_ways c.row-fits.result c.if-not-row-fits.true (c.row-fits.ensures.1 i))
+    c.row_size-size.result most c.args.bytes.now
+    is c.row_size-size.ensures few (inv.2 t) in
+    both_ways c.row_fits.result c.if-not-row_fits.true (c.row_fits.ensures.1 i))
 
 pub loop-left-preserved : goal.loop-left-preserved
 loop-left-preserved g c =
@@ -36,15 +36,15 @@ loop-left-preserved g c =
     let bytes = c.args.bytes.now in
     let left = c.loop-left.left in
     let at = c.loop-left.at in
-    let w = c.row-size-size.result in
+    let w = c.row_size-size.result in
     let inv = c.loop-left.invariant in
     let is : left ≡ suc (left - 1) = omega (arith, c.loop-left-test.true) in
     let few : length bytes ≤ most = omega arith in
-    let i = c.row-fits.ensures.0 c.if-not-row-fits.false in (
+    let i = c.row_fits.ensures.0 c.if-not-row_fits.false in (
       omega (arith, inv.0, c.if-bytes-at.false),
       λ t. inv.1 (rows_here s.form (left - 1) left at w bytes is i t),
       λ t. rows_there s.form s.size g.met.G.StoredGroup.sized (left - 1) left at w most bytes is
-          c.row-size-size.ensures few (inv.2 t),
+          c.row_size-size.ensures few (inv.2 t),
     )
 
 pub returns : goal.returns

@@ -3,8 +3,8 @@ use Rattle.buffers.specs.Forms.{put_at}
 use Rattle.buffers.proofs.Puts.{mid_is_put_at}
 use Rattle.keyform.proofs.writing.put_element.Goals as goal
 
-pub overflow-add-end : goal.overflow-add-end
-overflow-add-end g c = let k = g.met.G.StoredGroup.sized c.args.element in search rules
+pub overflow_add-end : goal.overflow_add-end
+overflow_add-end g c = let k = g.met.G.StoredGroup.sized c.args.element in search rules
 
 pub write-requires : goal.write-requires
 write-requires g c = let k = g.met.G.StoredGroup.sized c.args.element in search rules
@@ -13,8 +13,8 @@ pub returns : goal.returns
 returns g c =
     let s = c.write.ensures in
     let k = g.met.G.StoredGroup.sized c.args.element in
-    let z : c.size-of.result ≡ length (g.G.StoredGroup.form c.args.element) = search rules in
-    let e : c.args.at + c.size-of.result - c.args.at ≡ length c.write.new.out = omega (arith, ap length s) in
+    let z : c.size_of.result ≡ length (g.G.StoredGroup.form c.args.element) = search rules in
+    let e : c.args.at + c.size_of.result - c.args.at ≡ length c.write.new.out = omega (arith, ap length s) in
     record {
       after = mid_is_put_at c.args.out.now c.args.at _ c.write.new.out e
           ∙ ap (put_at c.args.out.now c.args.at) s;
