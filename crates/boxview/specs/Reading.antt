@@ -4,7 +4,7 @@ use Rattle.expander.specs.Meaning.{Expansion}
 use Rattle.expander.specs.declared.Seed.{Seed}
 use Rattle.key.specs.declared.Row.{Row}
 use Rattle.key.specs.declared.BoxNumber.{BoxNumber}
-use Rattle.key.specs.declared.BoxNumber.TheVariants.{Zero, One}
+use Rattle.key.specs.declared.BoxNumber.TheVariants.{Zero}
 use Rattle.shares.specs.Local.{sum_of, scale_of, xor_of}
 use Rattle.runs.specs.Plans.{Wiring, Deal, is_gate}
 use Rattle.layout.specs.Keys.{Compared}

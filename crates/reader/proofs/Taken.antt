@@ -1,6 +1,6 @@
 -- Every book passes the questions, and is short.
-use Rattle.std.proofs.Common.{◌≡◌, ℕ, zero, suc, ◌+◌, ◌-◌, ◌*◌, ◌^◌, ◌<◌, ◌≤◌, min, Bool, true, false, cond, not, ◌&&◌, ◌||◌, eqb, ltb, leb, ◌⊎◌, List, [], ◌∷◌, ◌++◌, length, get_or, Some, None, Ok, Option, sym, refl, ap, ◌∙◌, inl, inr, arith, length-append}
-use Rattle.std.proofs.lemmas.Bool.{cases_lt, cases_Bool, lt-ltb, le-ltb, le-leb, eq-eqb, ltb-true}
+use Rattle.std.proofs.Common.{◌≡◌, ℕ, zero, suc, ◌+◌, ◌-◌, ◌*◌, ◌^◌, ◌<◌, ◌≤◌, min, Bool, true, false, cond, not, ◌&&◌, eqb, ltb, ◌⊎◌, List, [], ◌∷◌, length, get_or, Some, Ok, refl, ap, ◌∙◌, inl, inr, arith, length-append}
+use Rattle.std.proofs.lemmas.Bool.{lt-ltb, le-ltb, le-leb, eq-eqb, ltb-true}
 use Rattle.refusal.specs.declared.Refusal.TheVariants.{BookLength, BookHeader, BookKind, BookCounts, BookContents, BookBodies}
 use Rattle.refusal.specs.Questions.{answered}
 use Rattle.layout.specs.Bytes.{joined}
@@ -11,11 +11,11 @@ use Rattle.bodies.specs.declared.GateHead.{GateHead}
 use Rattle.bodies.specs.declared.GateHead.TheVariants.{Sum, Scale, Product, Piece, Flag, Shift, SignedShift, Xor}
 use Rattle.bodies.specs.Heads.{gives_flag, lower_number, lower_flag, reads_fit}
 use Rattle.bodies.specs.Bodies.{head_in, gate_of, gate_in, input_in, gate_fits, input_fits}
-use Rattle.bodies.specs.Allowed.{head, GateAllowed}
+use Rattle.bodies.specs.Allowed.{head}
 use Rattle.bodies.proofs.Written.{gate_written, head_in_back, shown_back, input_written, input_back}
 use Rattle.bodies.proofs.Longest.{gate_short, input_short}
-use Rattle.reader.specs.Reading.{header_in, body_in, flag_kind, flag_in, wire_in, said}
-use Rattle.reader.specs.Questions.{length_fits, header_fits, counts_fit, contents_fit, reads_in, wire_fits, wires_fit, book_answer}
+use Rattle.reader.specs.Reading.{body_in, flag_kind, flag_in, wire_in, said}
+use Rattle.reader.specs.Questions.{header_fits, counts_fit, reads_in, wire_fits, wires_fit, book_answer}
 use Rattle.reader.specs.Law.{flag_wire, HeaderAllowed, wire_allowed, BookOf}
 use Rattle.reader.proofs.Laid.{book_long, body_back, length_stated, contents_whole}
 

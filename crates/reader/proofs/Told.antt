@@ -1,9 +1,9 @@
 -- The questions tell the books exactly.
-use Rattle.std.proofs.Common.{◌≡◌, ℕ, zero, suc, ◌+◌, ◌<◌, ◌≤◌, Bool, true, false, cond, ◌&&◌, eqb, ltb, leb, ◌⊎◌, List, length, get_or, Some, None, Ok, Option, sym, refl, ap, ◌∙◌, inl, inr, arith}
-use Rattle.std.proofs.lemmas.Bool.{and_parts, cases_eq, cases_lt, false≢true, eqb-true, leb-true, ltb-true, ltb-false}
+use Rattle.std.proofs.Common.{◌≡◌, ℕ, zero, suc, ◌+◌, ◌<◌, ◌≤◌, Bool, true, false, cond, ◌&&◌, eqb, ltb, ◌⊎◌, List, length, get_or, None, Ok, sym, refl, ap, ◌∙◌, inl, inr, arith}
+use Rattle.std.proofs.lemmas.Bool.{and_parts, cases_eq, cases_lt, eqb-true, ltb-true, ltb-false}
 use Rattle.plan.specs.Questions.{within}
 use Rattle.layout.specs.Wires.{Wire, input, gate, wire_bytes}
-use Rattle.layout.specs.Books.{Header, wire_count, offset, entry_bytes, laid_out}
+use Rattle.layout.specs.Books.{wire_count}
 use Rattle.bodies.specs.Parts.{Bytes}
 use Rattle.bodies.specs.Bodies.{head_in, gate_fits, input_fits}
 use Rattle.bodies.specs.Allowed.{head}
@@ -11,7 +11,7 @@ use Rattle.bodies.proofs.Spread.{number_small}
 use Rattle.bodies.proofs.FoundGates.{gate_found, input_found}
 use Rattle.reader.specs.Reading.{header_in, body_in, flag_in}
 use Rattle.reader.specs.Questions.{reads_in, wire_fits, wires_fit, book_asks, book_answer}
-use Rattle.reader.specs.Law.{flag_wire, HeaderAllowed, wire_allowed, BookOf, Tells}
+use Rattle.reader.specs.Law.{flag_wire, wire_allowed, BookOf, Tells}
 use Rattle.reader.proofs.Yes.{all_yes, within_tells}
 use Rattle.reader.proofs.Laid.{laid_same}
 use Rattle.reader.proofs.Taken.{reads_same, flag_placed, book_taken, book_short}

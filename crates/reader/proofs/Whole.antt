@@ -1,16 +1,16 @@
 -- A list of bytes that passes the questions about header and contents is laid out from what a reader finds in it.
-use Rattle.std.proofs.Common.{◌≡◌, ℕ, zero, suc, ◌+◌, ◌-◌, ◌*◌, ◌^◌, ◌<◌, ◌≤◌, Bool, true, false, cond, ◌&&◌, eqb, ltb, leb, ◌⊎◌, List, [], ◌∷◌, ◌++◌, length, get_or, take, drop, sym, refl, ap, ◌∙◌, subst, inl, inr, append_assoc, append-nil, add-one, arith, length-append, length-drop, take-append-drop}
+use Rattle.std.proofs.Common.{◌≡◌, ℕ, zero, suc, ◌+◌, ◌*◌, ◌<◌, ◌≤◌, Bool, true, false, cond, ◌&&◌, eqb, ltb, leb, List, [], ◌∷◌, ◌++◌, length, get_or, take, drop, sym, refl, ap, ◌∙◌, subst, inl, inr, append_assoc, append-nil, add-one, arith, length-drop, take-append-drop}
 use Rattle.std.proofs.lemmas.List.{drop-drop, drop_all, get_or-drop, length-take-le}
 use Rattle.std.proofs.lemmas.Bool.{and_parts, cases_eq, eqb-true, leb-true, le-leb}
 use Rattle.stored.specs.Forms.{four_bytes}
 use Rattle.layout.specs.Bytes.{number_at, joined}
-use Rattle.layout.specs.Books.{Header, wire_count, bodies_start, header_bytes, offset, entry_bytes, book_length, laid_out}
+use Rattle.layout.specs.Books.{Header, wire_count, header_bytes, offset, entry_bytes, book_length, laid_out}
 use Rattle.bodies.specs.Parts.{part, Bytes}
 use Rattle.bodies.proofs.Spread.{take_bytes, drop_bytes, number_split, number_drop}
 use Rattle.bodies.proofs.FoundGates.{numbers_split}
 use Rattle.reader.specs.Reading.{header_in, body_in}
 use Rattle.reader.specs.Questions.{length_fits, header_fits, contents_fit, entry_fits, gapless}
-use Rattle.reader.proofs.Laid.{joined_more, entries_long}
+use Rattle.reader.proofs.Laid.{joined_more}
 
 -- a body's bytes are bytes
 pub body_bytes : (book : List ℕ) (k : ℕ) → Bytes book → Bytes (body_in book k)

@@ -1,5 +1,5 @@
 -- Which lists of bytes are books, and that the questions tell them exactly.
-use Rattle.std.specs.Prelude.{◌≡◌, ℕ, ◌^◌, ◌<◌, ◌≤◌, Bool, true, false, List, Ok, Option, Result}
+use Rattle.std.specs.Prelude.{◌≡◌, ℕ, ◌^◌, ◌<◌, ◌≤◌, Bool, true, false, List, Ok, Result}
 use Rattle.refusal.specs.declared.Refusal.{Refusal}
 use Rattle.layout.specs.Wires.{Wire, input, gate, wire_bytes}
 use Rattle.layout.specs.Books.{Header, wire_count, laid_out}

@@ -1,5 +1,5 @@
 -- What a reader finds in a book: its header, the body of each wire, and what that says.
-use Rattle.std.specs.Prelude.{ℕ, ◌+◌, ◌*◌, Bool, cond, not, ◌&&◌, ◌||◌, List, [], length, Some, None, Option, ◌==◌, nat_le, nat_lt, slice_index}
+use Rattle.std.specs.Prelude.{ℕ, ◌+◌, ◌*◌, Bool, cond, not, ◌&&◌, ◌||◌, List, [], length, Some, Option, ◌==◌, nat_le, nat_lt, slice_index}
 use Rattle.layout.specs.Bytes.{number_at}
 use Rattle.layout.specs.Wires.{Wire, input, gate}
 use Rattle.layout.specs.Books.{Header}

@@ -7,8 +7,8 @@ pub returns : goal.returns
 returns c =
     let kind = c.args.kind in
     let book = c.args.book.now in
-    let e = c.asked-book.ensures in
-    let f : Bytes book = λ i. let h = c.type-inv.book i in omega arith in
+    let e = c.asked_book.ensures in
+    let f : Bytes book = λ i. let h = c.type_inv.book i in omega arith in
     let t = exactly_told kind book f in
     record {
       answer = e;

@@ -17,10 +17,10 @@ ends book k at f =
     let fits = leb (at + number_at book (20 + 8 * k)) (length book) in
     leb-true (at + number_at book (20 + 8 * k)) (length book) (and_parts starts fits (sym f)).1
 
-pub returns-then-not-entry-fits : goal.returns-then-not-entry-fits
-returns-then-not-entry-fits c =
+pub returns-then-not-entry_fits : goal.returns-then-not-entry_fits
+returns-then-not-entry_fits c =
     let e : c.args.wires - c.loop-k.k ≡ suc (c.args.wires - (c.loop-k.k + 1)) = omega arith in
-    sym (step c.args.book.now _ _ c.loop-k.k c.loop-k.at false e c.if-not-entry-fits.ensures) ∙ c.loop-k.invariant.0
+    sym (step c.args.book.now _ _ c.loop-k.k c.loop-k.at false e c.if-not-entry_fits.ensures) ∙ c.loop-k.invariant.0
 
 pub loop-k-preserved : goal.loop-k-preserved
 loop-k-preserved c =
@@ -28,8 +28,8 @@ loop-k-preserved c =
     let k = c.loop-k.k in
     let at = c.loop-k.at in
     let e : c.args.wires - k ≡ suc (c.args.wires - (k + 1)) = omega arith in
-    let f = c.if-not-entry-fits.ensures in
-    let n = c.number-at.ensures in
+    let f = c.if-not-entry_fits.ensures in
+    let n = c.number_at.ensures in
     let l = ends b k at f in (
       ap (λ m. gapless b (c.args.wires - (k + 1)) (k + 1) (at + m)) n ∙ sym (step b _ _ k at true e f) ∙ c.loop-k.invariant.0,
       omega arith,
