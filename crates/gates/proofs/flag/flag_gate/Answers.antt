@@ -11,10 +11,10 @@ use Rattle.gates.proofs.Draws.{three_alike}
 use Rattle.gates.proofs.FlagShares.{flag_share_is, flags_join}
 use Rattle.gates.proofs.flag.flag_gate.Goals as goal
 
-pub returns-in-err-ask-gate : goal.returns-in-err-ask-gate
-returns-in-err-ask-gate g c =
-    let p = err_from_is_err_and c.from-residual.result c.from-residual.ensures.1 in
-    let asked = ap Err p.2 ∙ c.in-err-ask-gate.ensures in
+pub returns-in_err-ask_gate : goal.returns-in_err-ask_gate
+returns-in_err-ask_gate g c =
+    let p = err_from_is_err_and c.from_residual.result c.from_residual.ensures.1 in
+    let asked = ap Err p.2 ∙ c.in_err-ask_gate.ensures in
     let r : ℕ = c.args.mask in
     let m : ℕ = c.args.m.0 in
     record {
@@ -38,15 +38,15 @@ returns g c =
     let pattern : ℕ = c.args.pattern in
     let ws = c.args.words.now in
     let bits = ap (λ w. w.bits) c.width.ensures in
-    let u = c.in-ok-ask-gate.field-0 in
-    let asked = c.in-ok-ask-gate.ensures in
+    let u = c.in_ok-ask_gate.field-0 in
+    let asked = c.in_ok-ask_gate.ensures in
     let n0 : ℕ = length c.args.rows0.now.rows.now in
     let n1 : ℕ = length c.args.rows1.now.rows.now in
     let fine = gate_allowed i.width.bits r m n0 n1 (gate_accepted r m bits c.count.ensures c.count-2.ensures u (tt {0}) asked) in
-    let key0 = c.flag-key-key0 in
-    let key1 = c.flag-key-key1 in
-    let half0 = c.answer-flag-half0 in
-    let half1 = c.answer-flag-half1 in
+    let key0 = c.flag_key-key0 in
+    let key1 = c.flag_key-key1 in
+    let half0 = c.answer_flag-half0 in
+    let half1 = c.answer_flag-half1 in
     let rows0 = key0.ensures.rows ∙ ap (flag_rows d i r pattern ws) fine.rows0 in
     let rows1 = key1.ensures.rows ∙ ap (flag_rows d i r pattern ws) fine.rows1 in
     let S0 : ℕ = flag_share_dealt d x false i r pattern ws m in

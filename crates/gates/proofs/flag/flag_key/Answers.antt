@@ -15,10 +15,10 @@ returns g c =
     let ws = c.args.words.now in
     let n : ℕ = length c.args.rows.now.rows.now in
     let β = flag_word c.args.pattern in
-    let out = c.flags-part-out.ensures ∙ ap (λ t. part_of_flags (is_one b) t (get_or ws 7 0)) c.low-half.ensures in
-    let said = c.deal-interval.ensures in
+    let out = c.flags_part-out.ensures ∙ ap (λ t. part_of_flags (is_one b) t (get_or ws 7 0)) c.low_half.ensures in
+    let said = c.deal_interval.ensures in
     record {
-      key = said.key ∙ key_alike x flags i r n {β = β} refl c.draws-for.ensures b out;
-      rows = said.rows ∙ rows_alike x flags i r n {β = β} refl c.draws-for.ensures;
+      key = said.key ∙ key_alike x flags i r n {β = β} refl c.draws_for.ensures b out;
+      rows = said.rows ∙ rows_alike x flags i r n {β = β} refl c.draws_for.ensures;
       same = said.same;
     }

@@ -6,12 +6,12 @@ use Rattle.gates.specs.Piece.{fresh_mean, dealt_piece_key, piece_rows}
 use Rattle.gates.proofs.Asked.{rows_refused, rows_asked, rows_accepted}
 use Rattle.gates.proofs.piece.deal_piece.Goals as goal
 
-pub returns-in-err-ask-rows : goal.returns-in-err-ask-rows
-returns-in-err-ask-rows g c =
-    let p = err_from_is_err_and c.from-residual.result c.from-residual.ensures.1 in
+pub returns-in_err-ask_rows : goal.returns-in_err-ask_rows
+returns-in_err-ask_rows g c =
+    let p = err_from_is_err_and c.from_residual.result c.from_residual.ensures.1 in
     record {
       key = ap (answer_mean (fresh_mean quad_mean)) p.1
-          ∙ sym (rows_refused c.count.ensures (ap (λ w. w.bits) c.width.ensures) p.0 _ (ap Err p.2 ∙ c.in-err-ask-rows.ensures));
+          ∙ sym (rows_refused c.count.ensures (ap (λ w. w.bits) c.width.ensures) p.0 _ (ap Err p.2 ∙ c.in_err-ask_rows.ensures));
       rows = rw p.1 refl;
       same = refl;
     }
@@ -26,10 +26,10 @@ returns g c =
     let ws = c.args.words.now in
     let n : ℕ = length c.args.rows.now.rows.now in
     let bits = ap (λ w. w.bits) c.width.ensures in
-    let u = c.in-ok-ask-rows.field-0 in
-    let asked = c.in-ok-ask-rows.ensures in
+    let u = c.in_ok-ask_rows.field-0 in
+    let asked = c.in_ok-ask_rows.ensures in
     let all : n ≡ i.width.bits = rows_asked c.count.ensures bits u asked in
-    let said = c.piece-key.ensures in
+    let said = c.piece_key.ensures in
     record {
       key = ap Ok (said.key ∙ ap (dealt_piece_key x b i r cs ws) all)
           ∙ sym (rows_accepted c.count.ensures bits u (dealt_piece_key x b i r cs ws i.width.bits) asked);

@@ -17,12 +17,12 @@ returns g c =
     let N : ℕ = size i.width in
     let n : ℕ = length c.args.rows.now.rows.now in
     let mask = c.reduce.ensures ∙ ap (λ t. get_or ws 0 0 % size t) w in
-    let out = c.number-part-out.ensures
+    let out = c.number_part-out.ensures
     ∙ ap (λ t. part_of_number (is_one b) (size t) c.reduce.result (get_or ws 13 0)) w
     ∙ ap (λ t. part_of_number (is_one b) N t (get_or ws 13 0)) mask in
-    let said = c.deal-interval.ensures in
+    let said = c.deal_interval.ensures in
     record {
-      key = said.key ∙ key_alike x quads i r n c.payload-for-payload.ensures c.draws-for.ensures b out;
-      rows = said.rows ∙ rows_alike x quads i r n c.payload-for-payload.ensures c.draws-for.ensures;
+      key = said.key ∙ key_alike x quads i r n c.payload_for-payload.ensures c.draws_for.ensures b out;
+      rows = said.rows ∙ rows_alike x quads i r n c.payload_for-payload.ensures c.draws_for.ensures;
       same = said.same;
     }

@@ -17,13 +17,13 @@ use Rattle.gates.proofs.product.product_gate.Goals as goal
 abbrev share_at : ℕ → ℕ → ProductKey → ℕ
 share_at m k key = product_share (is_one key.number) (size key.width) m k key.a key.b key.c
 
-pub returns-in-err-ask-product : goal.returns-in-err-ask-product
-returns-in-err-ask-product c =
-    let p = err_from_is_err_and c.from-residual.result c.from-residual.ensures.1 in
-    let asked = ap Err p.2 ∙ c.in-err-ask-product.ensures in
+pub returns-in_err-ask_product : goal.returns-in_err-ask_product
+returns-in_err-ask_product c =
+    let p = err_from_is_err_and c.from_residual.result c.from_residual.ensures.1 in
+    let asked = ap Err p.2 ∙ c.in_err-ask_product.ensures in
     let n : ℕ = c.args.width.bits in
-    let r : ℕ = c.args.mask-a in
-    let s : ℕ = c.args.mask-b in
+    let r : ℕ = c.args.mask_a in
+    let s : ℕ = c.args.mask_b in
     let m : ℕ = c.args.m.0 in
     let k : ℕ = c.args.k.0 in
     record {
@@ -34,20 +34,20 @@ returns-in-err-ask-product c =
 pub returns : goal.returns
 returns c =
     let w = c.args.width in
-    let r : ℕ = c.args.mask-a in
-    let s : ℕ = c.args.mask-b in
+    let r : ℕ = c.args.mask_a in
+    let s : ℕ = c.args.mask_b in
     let m : ℕ = c.args.m.0 in
     let k : ℕ = c.args.k.0 in
     let ws = c.args.words.now in
     let N : ℕ = size w in
-    let u = c.in-ok-ask-product.field-0 in
-    let asked = c.in-ok-ask-product.ensures in
+    let u = c.in_ok-ask_product.field-0 in
+    let asked = c.in_ok-ask_product.ensures in
     let fine = product_allowed w.bits r s m k u asked in
-    let half0 = c.answer-product-half0 in
-    let half1 = c.answer-product-half1 in
-    let e0 : half0.result.own.0 ≡ share_at m k (dealt_product Zero w r s ws) = half0.ensures.share ∙ ap (share_at m k) c.deal-product-key0.ensures in
-    let e1 : half1.result.own.0 ≡ share_at m k (dealt_product One w r s ws) = half1.ensures.share ∙ ap (share_at m k) c.deal-product-key1.ensures in
-    let width = half0.ensures.width ∙ ap (λ j. j.width) c.deal-product-key0.ensures in
+    let half0 = c.answer_product-half0 in
+    let half1 = c.answer_product-half1 in
+    let e0 : half0.result.own.0 ≡ share_at m k (dealt_product Zero w r s ws) = half0.ensures.share ∙ ap (share_at m k) c.deal_product-key0.ensures in
+    let e1 : half1.result.own.0 ≡ share_at m k (dealt_product One w r s ws) = half1.ensures.share ∙ ap (share_at m k) c.deal_product-key1.ensures in
+    let width = half0.ensures.width ∙ ap (λ j. j.width) c.deal_product-key0.ensures in
     let both = c.exchange.ensures.held
     ∙ ap (λ v. sum_of (size v) half0.result.own.0 half1.result.own.0) width
     ∙ ap (λ t. sum_of N t half1.result.own.0) e0

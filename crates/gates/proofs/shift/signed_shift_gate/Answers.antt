@@ -12,10 +12,10 @@ use Rattle.gates.proofs.ShiftDealt.{key_at, low_rows_at, high_rows_at}
 use Rattle.gates.proofs.ShiftShares.{signed_share_is, signed_shifts_join}
 use Rattle.gates.proofs.shift.signed_shift_gate.Goals as goal
 
-pub returns-in-err-ask-shift : goal.returns-in-err-ask-shift
-returns-in-err-ask-shift g c =
-    let p = err_from_is_err_and c.from-residual.result c.from-residual.ensures.1 in
-    let asked = ap Err p.2 ∙ c.in-err-ask-shift.ensures in
+pub returns-in_err-ask_shift : goal.returns-in_err-ask_shift
+returns-in_err-ask_shift g c =
+    let p = err_from_is_err_and c.from_residual.result c.from_residual.ensures.1 in
+    let asked = ap Err p.2 ∙ c.in_err-ask_shift.ensures in
     let s = c.args.shift in
     let r : ℕ = c.args.mask in
     let m : ℕ = c.args.m.0 in
@@ -40,18 +40,18 @@ returns g c =
     let m : ℕ = c.args.m.0 in
     let N : ℕ = size s.width in
     let ws = c.args.words.now in
-    let u = c.in-ok-ask-shift.field-0 in
-    let asked = c.in-ok-ask-shift.ensures in
+    let u = c.in_ok-ask_shift.field-0 in
+    let asked = c.in_ok-ask_shift.ensures in
     let l0 : ℕ = length c.args.low0.now.rows.now in
     let h0 : ℕ = length c.args.high0.now.rows.now in
     let l1 : ℕ = length c.args.low1.now.rows.now in
     let h1 : ℕ = length c.args.high1.now.rows.now in
     let fine = shift_allowed s r m l0 h0 l1 h1
     (shift_accepted s r m c.count.ensures c.count-2.ensures c.count-3.ensures c.count-4.ensures u (tt {0}) asked) in
-    let key0 = c.shift-key-key0 in
-    let key1 = c.shift-key-key1 in
-    let half0 = c.answer-signed-shift-half0 in
-    let half1 = c.answer-signed-shift-half1 in
+    let key0 = c.shift_key-key0 in
+    let key1 = c.shift_key-key1 in
+    let half0 = c.answer_signed_shift-half0 in
+    let half1 = c.answer_signed_shift-half1 in
     let low0 = low_rows_at d s r ws fine.low0 key0.ensures.low in
     let high0 = high_rows_at d s r ws fine.high0 key0.ensures.high in
     let low1 = low_rows_at d s r ws fine.low1 key1.ensures.low in

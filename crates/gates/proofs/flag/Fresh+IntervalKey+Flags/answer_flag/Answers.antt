@@ -10,6 +10,6 @@ returns g c =
     let k = c.args.self.key in
     let x = g.X.Expander.meaning in
     let m = c.args.m.0 in
-    c.flag-share.ensures
-    ∙ ap (λ f. flag_share f.0 k.out) c.answer-at-answer.ensures
-    ∙ ap (λ rs. flag_share (interval_answer x flags flag_mean k rs m).0 k.out) c.as-slice.ensures
+    c.flag_share.ensures
+    ∙ ap (λ f. flag_share f.0 k.out) c.answer_at-answer.ensures
+    ∙ ap (λ rs. flag_share (interval_answer x flags flag_mean k rs m).0 k.out) c.as_slice.ensures

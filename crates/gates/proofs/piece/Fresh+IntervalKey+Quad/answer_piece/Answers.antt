@@ -13,9 +13,9 @@ returns g c =
     let m = c.args.m.0 in
     let share = piece_share_of (size k.interval.width) m in
     record {
-      share = c.piece-share.ensures
-          ∙ ap (λ w. piece_share_of (size w) m (quad_mean c.answer-at-answer.result) k.out) c.width-width.ensures
-          ∙ ap (λ q. share q k.out) c.answer-at-answer.ensures
-          ∙ ap (λ rs. share (interval_answer x quads quad_mean k rs m) k.out) c.as-slice.ensures;
+      share = c.piece_share.ensures
+          ∙ ap (λ w. piece_share_of (size w) m (quad_mean c.answer_at-answer.result) k.out) c.width-width.ensures
+          ∙ ap (λ q. share q k.out) c.answer_at-answer.ensures
+          ∙ ap (λ rs. share (interval_answer x quads quad_mean k rs m) k.out) c.as_slice.ensures;
       width = c.width-width.ensures;
     }
