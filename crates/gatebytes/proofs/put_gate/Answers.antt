@@ -1,4 +1,4 @@
-use Rattle.std.proofs.Common.{◌≡◌, drop, sym}
+use Rattle.std.proofs.Common.{drop, sym}
 use Rattle.layout.specs.Bytes.{front}
 use Rattle.key.specs.Rows.{is_one}
 use Rattle.plan.specs.Plans.{words_of}

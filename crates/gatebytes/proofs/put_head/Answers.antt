@@ -1,4 +1,4 @@
-use Rattle.std.proofs.Common.{◌≡◌, [], ◌∷◌, ◌++◌, Option, sym, ap}
+use Rattle.std.proofs.Common.{sym, ap}
 use Rattle.buffers.proofs.Puts.{then, put_as}
 use Rattle.gatebytes.specs.Heads.{head_bytes}
 use Rattle.gatebytes.proofs.put_head.Goals as goal

@@ -1,4 +1,4 @@
-use Rattle.std.proofs.Common.{◌≡◌, ◌++◌, sym, ap, arith}
+use Rattle.std.proofs.Common.{◌++◌, sym, ap}
 use Rattle.stored.specs.Forms.{four_bytes}
 use Rattle.layout.specs.Keys.{key_bytes}
 use Rattle.buffers.proofs.Puts.{then, put_as, room_first_as, room_next}

@@ -1,4 +1,4 @@
-use Rattle.std.proofs.Common.{◌≡◌, ℕ, ◌≤◌, length, sym, ap, ◌∙◌, arith, rules}
+use Rattle.std.proofs.Common.{sym, ap, ◌∙◌, arith}
 use Rattle.gatemath.specs.Elements.{quad_mean}
 use Rattle.layout.specs.Keys.{quad_bytes}
 use Rattle.buffers.proofs.Puts.{put_as, room_as}

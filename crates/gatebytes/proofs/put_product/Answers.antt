@@ -1,4 +1,4 @@
-use Rattle.std.proofs.Common.{◌≡◌, ◌++◌, ap, ◌∙◌}
+use Rattle.std.proofs.Common.{◌++◌, ap, ◌∙◌}
 use Rattle.stored.specs.Forms.{four_bytes}
 use Rattle.buffers.proofs.Puts.{then, put_as}
 use Rattle.gatebytes.proofs.put_product.Goals as goal

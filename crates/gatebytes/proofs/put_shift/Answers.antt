@@ -1,4 +1,4 @@
-use Rattle.std.proofs.Common.{◌≡◌, sym, ap, ◌∙◌, arith}
+use Rattle.std.proofs.Common.{sym, ap, ◌∙◌, arith}
 use Rattle.gatemath.specs.Elements.{word_mean}
 use Rattle.layout.specs.Keys.{word_bytes}
 use Rattle.buffers.proofs.Puts.{put_as, room_as}
