@@ -5,7 +5,7 @@ use Rattle.orders.specs.Text.{pieces, words, nth, decimal_of}
 use Rattle.plan.specs.declared.PlanRow.{PlanRow}
 use Rattle.planlines.specs.declared.types.PlanLine.{PlanLine}
 use Rattle.planlines.specs.declared.types.PlanLine.TheVariants.{Other, Begin, Gate, Words, Books, Book}
-use Rattle.planlines.specs.Grammar.{or_zero, parsed}
+use Rattle.planlines.specs.Grammar.{or_zero}
 use Rattle.draft.specs.declared.Draft.{Draft}
 
 pub record Drafted : Type 0 where

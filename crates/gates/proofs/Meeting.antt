@@ -1,5 +1,5 @@
 -- From two dealt keys to answers that join.
-use Rattle.std.proofs.Common.{◌≡◌, ℕ, ◌+◌, ◌-◌, ◌%◌, ◌^◌, ◌<◌, Bool, true, false, cond, List, map, sym, refl, ap, ◌∙◌, mod-lt, pow_pos}
+use Rattle.std.proofs.Common.{◌≡◌, ℕ, ◌^◌, ◌<◌, Bool, true, false, cond, List, map, sym, ap, ◌∙◌}
 use Rattle.group.specs.Groups.{OutputGroup}
 use Rattle.expander.specs.Meaning.{Expansion}
 use Rattle.expander.specs.declared.Seed.{Seed}
@@ -16,7 +16,7 @@ use Rattle.shares.specs.Keyed as keyed
 use Rattle.gatekeys.specs.declared.ranges.Interval.{Interval}
 use Rattle.gates.specs.declared.interval_key.IntervalKey.{IntervalKey}
 use Rattle.gates.specs.declared.interval_key.IntervalDraws.{IntervalDraws}
-use Rattle.gates.specs.Interval.{interval_key_mean, key_at, interval_answer, dealt_interval, interval_rows}
+use Rattle.gates.specs.Interval.{interval_key_mean, interval_answer, dealt_interval, interval_rows}
 
 -- two boxes' keys for one threshold, dealt by d, answer as the comparison says
 pub dealt_keys_join : {M : Type 0} (g : OutputGroup M) (d x y : Expansion) (n α : ℕ) (β : M) (root0 root1 : Seed)

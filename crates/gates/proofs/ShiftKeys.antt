@@ -1,9 +1,8 @@
 -- A shift's key, part by part.
-use Rattle.std.proofs.Common.{◌≡◌, ℕ, List, ap, ◌∙◌}
+use Rattle.std.proofs.Common.{◌≡◌, ℕ, ap, ◌∙◌}
 use Rattle.expander.specs.Meaning.{Expansion}
 use Rattle.expander.specs.declared.Seed.{Seed}
 use Rattle.group.specs.Groups.{OutputGroup}
-use Rattle.key.specs.declared.Row.{Row}
 use Rattle.key.specs.declared.BoxNumber.{BoxNumber}
 use Rattle.dealing.specs.Dealing.{start, dealt_rows, dealt_last}
 use Rattle.gatekeys.specs.declared.ranges.Shift.{Shift}

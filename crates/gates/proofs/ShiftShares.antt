@@ -1,14 +1,12 @@
 -- Two boxes' shares of a shift, from their dealt keys.
-use Rattle.std.proofs.Common.{◌≡◌, ℕ, ◌+◌, ◌%◌, ◌^◌, ◌<◌, ◌≤◌, Bool, true, false, cond, List, map, get_or, ap, ◌∙◌, mod-lt, arith, pow_pos}
+use Rattle.std.proofs.Common.{◌≡◌, ℕ, ◌%◌, ◌^◌, ◌<◌, true, false, List, map, get_or, ap, ◌∙◌, mod-lt, arith, pow_pos}
 use Rattle.expander.specs.Meaning.{Expansion}
-use Rattle.expander.specs.declared.Seed.{Seed}
 use Rattle.group.specs.declared.Word as code
 use Rattle.key.specs.declared.Row.{Row}
 use Rattle.key.specs.declared.BoxNumber.{BoxNumber}
-use Rattle.key.specs.declared.BoxNumber.TheVariants.{Zero, One}
 use Rattle.key.specs.Rows.{row_mean, is_one}
 use Rattle.evaluation.specs.Evaluation.{evaluated}
-use Rattle.joining.specs.Joining.{AllWide, dealt_answer}
+use Rattle.joining.specs.Joining.{AllWide}
 use Rattle.joining.proofs.Same.{same_evaluated}
 use Rattle.masking.specs.Masking.{size}
 use Rattle.shares.specs.Words.{Word, word, words}

@@ -2,7 +2,6 @@
 use Rattle.std.specs.Prelude.{ℕ, cond, List}
 use Rattle.group.specs.Groups.{OutputGroup}
 use Rattle.expander.specs.Meaning.{Expansion}
-use Rattle.expander.specs.declared.Seed.{Seed}
 use Rattle.key.specs.declared.Row.{Row}
 use Rattle.key.specs.declared.BoxNumber.{BoxNumber}
 use Rattle.key.specs.Rows.{is_one}

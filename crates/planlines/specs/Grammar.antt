@@ -10,7 +10,6 @@ use Rattle.orders.specs.Grammar.{and_then, field, short_field, byte_field, numbe
 use Rattle.orders.specs.Text.{pieces, words, nth, decimal_of, hex_of}
 use Rattle.plan.specs.declared.GateBody.{GateBody}
 use Rattle.plan.specs.declared.GateBody.TheVariants as gate
-use Rattle.plan.specs.declared.PlanRow.{PlanRow}
 use Rattle.planlines.specs.declared.types.PlanLine.{PlanLine}
 use Rattle.planlines.specs.declared.types.PlanLine.TheVariants.{Other, Begin, Gate, Words, Books, Book}
 

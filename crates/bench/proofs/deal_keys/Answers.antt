@@ -1,4 +1,4 @@
-use Rattle.std.proofs.Common.{◌≡◌, length, ap, ◌∙◌, rules}
+use Rattle.std.proofs.Common.{length, ap, ◌∙◌, rules}
 use Rattle.dealing.specs.Dealing.{dealt_last, start}
 use Rattle.bench.specs.Workloads.{place, root}
 use Rattle.bench.proofs.Chain.{added}
@@ -11,7 +11,7 @@ loop-i-preserved g c =
     let p = m.mean c.args.payload in
     let s = start m.group (root 0) (root 16) in
     let one =
-    c.deal-one.ensures
+    c.deal_one.ensures
     ∙ ap (λ t. dealt_last x m.group p t (length c.loop-i.memory) s) c.place.ensures
     ∙ ap (λ n. dealt_last x m.group p (place c.loop-i.i) n s) c.loop-i.invariant.0 in
     (search rules, added m.group _ c.loop-i.i _ _ _ c.loop-i.invariant.1 one c.add-all.ensures)

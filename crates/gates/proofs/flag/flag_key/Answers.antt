@@ -1,4 +1,4 @@
-use Rattle.std.proofs.Common.{◌≡◌, ℕ, length, get_or, refl, ap, ◌∙◌}
+use Rattle.std.proofs.Common.{ℕ, length, get_or, refl, ap, ◌∙◌}
 use Rattle.key.specs.Rows.{is_one}
 use Rattle.group.specs.Flags.{flags}
 use Rattle.shares.specs.Words.{flag_word}

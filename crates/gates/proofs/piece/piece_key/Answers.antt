@@ -1,4 +1,4 @@
-use Rattle.std.proofs.Common.{◌≡◌, ℕ, ◌%◌, length, get_or, ap, ◌∙◌}
+use Rattle.std.proofs.Common.{ℕ, ◌%◌, length, get_or, ap, ◌∙◌}
 use Rattle.key.specs.Rows.{is_one}
 use Rattle.masking.specs.Masking.{size}
 use Rattle.shares.specs.Splits.{part_of_number}

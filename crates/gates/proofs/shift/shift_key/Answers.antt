@@ -5,7 +5,7 @@ use Rattle.shares.specs.Splits.{part_of_number}
 use Rattle.shares.specs.Words as group
 use Rattle.shares.specs.Shifts.{shift_rest}
 use Rattle.gatemath.specs.Elements.{step_of}
-use Rattle.gates.specs.Shift.{low_root0, low_root1, high_root0, high_root1}
+use Rattle.gates.specs.Shift.{low_root0, high_root0}
 use Rattle.gates.proofs.ShiftKeys.{same_rows, same_last, same_key}
 use Rattle.gates.proofs.shift.shift_key.Goals as goal
 

@@ -1,4 +1,4 @@
-use Rattle.std.proofs.Common.{◌≡◌, ap, ◌∙◌}
+use Rattle.std.proofs.Common.{ap, ◌∙◌}
 use Rattle.group.specs.Flags.{flags}
 use Rattle.shares.specs.Flag.{flag_share}
 use Rattle.gates.specs.Interval.{interval_answer}

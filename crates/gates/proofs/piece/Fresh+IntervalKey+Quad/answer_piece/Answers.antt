@@ -1,4 +1,4 @@
-use Rattle.std.proofs.Common.{◌≡◌, sym, refl, ap, ◌∙◌}
+use Rattle.std.proofs.Common.{ap, ◌∙◌}
 use Rattle.masking.specs.Masking.{size}
 use Rattle.shares.specs.Words.{quads}
 use Rattle.shares.specs.Piece.{piece_share_of}
