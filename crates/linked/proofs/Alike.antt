@@ -1,11 +1,11 @@
 -- Two readings of one book give the same steps, where they agree on what a step looks at.
-use Rattle.std.proofs.Common.{◌≡◌, ℕ, Bool, true, false, cond, ◌&&◌, ◌||◌, List, [], ◌∷◌, set, Some, None, sym, refl, ap, ◌∙◌, subst, ap₂}
+use Rattle.std.proofs.Common.{◌≡◌, ℕ, Bool, true, false, cond, List, [], ◌∷◌, set, None, sym, refl, ap, ◌∙◌}
 use mathlib.Core.Path.{fun_ext}
 use Rattle.std.proofs.lemmas.Bool.{and_parts}
 use Rattle.refusal.specs.declared.Refusal.{Refusal}
 use Rattle.key.specs.declared.BoxNumber.{BoxNumber}
 use Rattle.runs.specs.Plans.{Group, Wiring, Deal, is_input, is_gate, same_box, all_of}
-use Rattle.runs.specs.Boxes.{Slot, Half, Full, Act, Put, Work, Send, Take, Show, Count, Answer, Done, Sent, Shown, Refused, held_at, list_in, slot_at, outgoing, value_in, carried, asks, says, leaves, worked, step}
+use Rattle.runs.specs.Boxes.{Slot, Half, Full, Act, Put, Work, Send, Take, Show, Count, Answer, Done, Shown, held_at, list_in, slot_at, value_in, carried, asks, step}
 use Rattle.runs.proofs.Steps.{Yes}
 
 -- a call is carried out alike where that is so once every question was answered yes

@@ -1,5 +1,5 @@
 -- The book of a deal says of each wire what the plan says, and its keys are those that were dealt.
-use Rattle.std.proofs.Common.{◌≡◌, ℕ, ◌+◌, ◌-◌, ◌*◌, ◌^◌, ◌<◌, ◌≤◌, Bool, true, false, cond, ◌&&◌, eqb, ltb, leb, ◌⊎◌, List, [], ◌∷◌, ◌++◌, length, get_or, drop, Some, None, Ok, Option, sym, refl, ap, ◌∙◌, subst, ap₂, inl, inr, arith}
+use Rattle.std.proofs.Common.{◌≡◌, ℕ, ◌-◌, ◌<◌, ◌≤◌, Bool, true, false, cond, ◌&&◌, eqb, ltb, leb, List, [], ◌++◌, length, get_or, drop, Some, None, Ok, Option, sym, refl, ap, ◌∙◌, subst, ap₂, inl, inr, arith}
 use Rattle.std.proofs.lemmas.List.{get_or_past}
 use Rattle.std.proofs.lemmas.Bool.{and_parts, ltb-true, ltb-false, leb-true, lt-ltb, le-ltb, eq-eqb, ne_eqb, cases_lt, cases_eq, false≢true}
 use Rattle.refusal.specs.Questions.{answered}
@@ -10,12 +10,12 @@ use Rattle.key.specs.declared.BoxNumber.TheVariants.{Zero, One}
 use Rattle.key.specs.Rows.{is_one}
 use Rattle.plan.specs.declared.GateBody.{GateBody}
 use Rattle.plan.specs.declared.GateBody.TheVariants as plan
-use Rattle.plan.specs.Plans.{Planned, wires, is_input, is_flag, row_at, no_row, gives_flag, is_keyed, reads}
+use Rattle.plan.specs.Plans.{Planned, wires, is_input, row_at, no_row, gives_flag, is_keyed, reads}
 use Rattle.plan.specs.Questions.{plan_asks}
 use Rattle.plan.proofs.Accepted.{Accepted, accepted, owner_small}
 use Rattle.layout.specs.Wires as wire
 use Rattle.layout.specs.Wires.{Gate, Wire, input, gate, wire_bytes, parameter_bytes, gate_key_bytes}
-use Rattle.layout.specs.Books.{Header, wire_count}
+use Rattle.layout.specs.Books.{wire_count}
 use Rattle.bodies.specs.declared.WireBody.{WireBody}
 use Rattle.bodies.specs.declared.WireBody.TheVariants as body
 use Rattle.bodies.specs.declared.GateHead.{GateHead}
@@ -27,7 +27,7 @@ use Rattle.bodies.specs.Allowed.{head, key_allowed}
 use Rattle.reader.specs.Reading.{header_in, body_in, wire_in, said}
 use Rattle.masks.specs.Masks.{masks, mask_of}
 use Rattle.gatebytes.specs.Dealt.{dealt_gate}
-use Rattle.dealer.specs.Book.{Order, order, when, gate_words, dealt_wire, header, dealt_book}
+use Rattle.dealer.specs.Book.{Order, order, when, gate_words, dealt_wire, dealt_book}
 use Rattle.returned.specs.Returned.{Returned}
 use Rattle.returned.proofs.Back.{dealt_is_read}
 use Rattle.returned.proofs.Ranges.{key_dealt}
@@ -37,9 +37,9 @@ use Rattle.boxview.specs.Values.{values, box_of}
 use Rattle.boxview.specs.Sharing.{gate_share, gate_local}
 use Rattle.boxview.specs.Reading as view
 use Rattle.boxview.specs.Reading.{no_wire, or_none, wire_of, wiring_in, deal_in, WholeGate, HoldsGate, SharesOf, head_reads, head_keyed, head_local, owner_of, reads_of, keyed_of, shown_of, flag_of, local_of}
-use Rattle.boxview.specs.Steps.{no_book, box_step}
-use Rattle.sharing.specs.Wirings.{own, reads_at, wiring_of, gate_of, deal_of}
-use Rattle.linked.specs.Linked.{book_of, BoxLinked, BoxesAreLinked}
+use Rattle.boxview.specs.Steps.{box_step}
+use Rattle.sharing.specs.Wirings.{own, wiring_of, gate_of, deal_of}
+use Rattle.linked.specs.Linked.{BoxLinked, BoxesAreLinked}
 use Rattle.linked.proofs.Alike.{DealAlike, WiringAlike, step_of_deals, step_of_wirings}
 use Rattle.linked.proofs.Told.{gate_told}
 use Rattle.linked.proofs.Whole.{gate_whole}

@@ -1,13 +1,12 @@
 -- A gate's head and the bytes of its key tell the gate.
-use Rattle.std.proofs.Common.{◌≡◌, ℕ, ◌+◌, ◌*◌, ◌%◌, ◌^◌, ◌<◌, ◌≤◌, Bool, cond, List, [], ◌∷◌, ◌++◌, map, length, drop, sym, refl, ap, ◌∙◌, mod-eq_of_lt, arith, length-append, pow_mono}
-use Rattle.expander.specs.declared.Seed.{Seed}
+use Rattle.std.proofs.Common.{◌≡◌, ℕ, ◌+◌, ◌*◌, ◌^◌, ◌<◌, ◌≤◌, List, [], ◌∷◌, ◌++◌, map, length, sym, refl, ap, ◌∙◌, mod-eq_of_lt, arith, pow_mono}
 use Rattle.group.specs.Residues.{Residue, residue_path}
 use Rattle.key.specs.declared.Row.{Row}
 use Rattle.key.specs.Rows.{row_mean}
-use Rattle.stored.specs.Forms.{four_bytes, eight_bytes}
+use Rattle.stored.specs.Forms.{four_bytes}
 use Rattle.stored.specs.Bytes.{four_told, eight_told}
 use Rattle.shares.specs.Words.{Word, Quad}
-use Rattle.layout.specs.Keys.{Compared, key_bytes, compared_bytes, word_bytes, flag_bytes, quad_bytes}
+use Rattle.layout.specs.Keys.{Compared, compared_bytes, word_bytes, flag_bytes, quad_bytes}
 use Rattle.layout.specs.Wires as wire
 use Rattle.layout.specs.Wires.{Gate, gate_key_bytes, interval_bytes, shift_bytes}
 use Rattle.keyform.proofs.Lengths.{key_long}
@@ -15,7 +14,7 @@ use Rattle.keyform.proofs.Told.{same_front, same_back, seed_told, key_told, alik
 use Rattle.bodies.specs.declared.GateHead.{GateHead}
 use Rattle.bodies.specs.declared.GateHead.TheVariants.{Sum, Scale, Product, Piece, Flag, Shift, SignedShift, Xor}
 use Rattle.bodies.specs.Allowed.{head, key_allowed}
-use Rattle.boxview.specs.Reading.{WholeKey, WholeRows, WholeGate}
+use Rattle.boxview.specs.Reading.{WholeKey, WholeGate}
 
 word_told : (a b : Word) → word_bytes a ≡ word_bytes b → a ≡ b
 word_told a b e = residue_path (2 ^ 64) a b (sym a.1 ∙ eight_told a.0 b.0 e ∙ b.1)

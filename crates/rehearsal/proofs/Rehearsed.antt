@@ -1,17 +1,11 @@
 -- Two boxes with the books of a deal run as the deal's definitions do.
-use Rattle.std.proofs.Common.{◌≡◌, ℕ, zero, suc, ◌+◌, ◌^◌, ◌<◌, ◌≤◌, Bool, true, false, cond, List, [], ◌∷◌, length, Ok, sym, refl, ap, ◌∙◌, subst, arith}
+use Rattle.std.proofs.Common.{◌≡◌, ℕ, zero, suc, ◌≤◌, cond, List, [], ◌∷◌, length, sym, refl, ap, ◌∙◌, subst, arith}
 use mathlib.Core.Path.{fun_ext}
-use Rattle.refusal.specs.Questions.{answered}
-use Rattle.expander.specs.Meaning.{Expansion}
-use Rattle.joining.specs.Joining.{AllWide}
 use Rattle.key.specs.declared.BoxNumber.{BoxNumber}
 use Rattle.key.specs.declared.BoxNumber.TheVariants.{Zero, One}
-use Rattle.plan.specs.Plans as plan
-use Rattle.plan.specs.Plans.{Planned}
-use Rattle.plan.specs.Questions.{plan_asks}
-use Rattle.plan.proofs.Accepted.{Accepted, accepted}
+use Rattle.plan.proofs.Accepted.{accepted}
 use Rattle.runs.specs.Plans.{Wiring, Deal, Formed, Dealt, wires, is_input}
-use Rattle.runs.specs.Boxes.{Slot, Act, Put, Work, Send, Take, Answer, Done, Sent, Shown, Counted, Refused, step}
+use Rattle.runs.specs.Boxes.{Act, Put, Work, Send, Take, Answer, Done, Sent, Shown, Counted, Refused, step}
 use Rattle.runs.specs.Runs as runs
 use Rattle.runs.specs.Runs.{Call, Event, Here, loaded, Fair, after, round}
 use Rattle.runs.specs.Theorem.{EveryFull}
@@ -23,11 +17,11 @@ use Rattle.boxview.specs.Reading.{SharesOf}
 use Rattle.boxview.specs.Steps.{box_step}
 use Rattle.linked.specs.Linked.{book_of, BoxLinked}
 use Rattle.linked.proofs.Dealt.{boxes_are_linked}
-use Rattle.sharing.specs.Wirings.{own, wiring_of, deal_of}
+use Rattle.sharing.specs.Wirings.{wiring_of, deal_of}
 use Rattle.sharing.proofs.Formed.{plans_are_formed}
 use Rattle.sharing.proofs.Dealt.{deals_fit}
 use Rattle.rehearsal.specs.Machines.{Machine, book_machine, deal_machine, moved, ran, take_if, exchanged, begun, rounded}
-use Rattle.rehearsal.specs.Rehearsed.{RoundFills, Kept, RehearsalsStand}
+use Rattle.rehearsal.specs.Rehearsed.{Kept, RehearsalsStand}
 
 module _ (p : Wiring) (d : Deal) where
   abbrev M : Machine

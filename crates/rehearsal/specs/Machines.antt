@@ -2,9 +2,9 @@
 use Rattle.std.specs.Prelude.{ℕ, zero, suc, Bool, cond, List, [], ◌∷◌}
 use Rattle.key.specs.declared.BoxNumber.{BoxNumber}
 use Rattle.key.specs.declared.BoxNumber.TheVariants.{Zero, One}
-use Rattle.runs.specs.Plans.{Wiring, Deal, is_input, wires}
+use Rattle.runs.specs.Plans.{Wiring, Deal}
 use Rattle.runs.specs.Boxes.{Slot, Act, Put, Work, Send, Take, Answer, Done, Sent, Shown, Counted, Refused, step}
-use Rattle.runs.specs.Runs.{Call, Event, event, Here, last_answer}
+use Rattle.runs.specs.Runs.{Call, event, Here, last_answer}
 use Rattle.boxview.specs.Steps.{box_step}
 
 -- what each of two boxes answers and leaves

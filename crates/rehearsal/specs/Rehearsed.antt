@@ -1,5 +1,5 @@
 -- What every list of calls at two boxes with the books of a deal keeps.
-use Rattle.std.specs.Prelude.{◌≡◌, ℕ, ◌^◌, ◌<◌, true, List, [], length, Ok}
+use Rattle.std.specs.Prelude.{◌≡◌, ℕ, ◌^◌, ◌<◌, true, List, length, Ok}
 use Rattle.refusal.specs.Questions.{answered}
 use Rattle.expander.specs.Meaning.{Expansion}
 use Rattle.joining.specs.Joining.{AllWide}
@@ -7,7 +7,7 @@ use Rattle.key.specs.declared.BoxNumber.TheVariants.{Zero, One}
 use Rattle.plan.specs.Plans.{Planned}
 use Rattle.plan.specs.Questions.{plan_asks}
 use Rattle.runs.specs.Plans.{Wiring, Deal, wires, is_input}
-use Rattle.runs.specs.Runs.{Call, Event, Here, loaded, Fair}
+use Rattle.runs.specs.Runs.{Call, Here, loaded, Fair}
 use Rattle.runs.specs.Theorem.{ShownRight, CountsRight, MessagesRight, EveryFull}
 use Rattle.boxview.specs.Reading.{SharesOf}
 use Rattle.linked.specs.Linked.{book_of}

@@ -1,7 +1,6 @@
 -- A book that was dealt passes every question, and is read back.
-use Rattle.std.proofs.Common.{◌≡◌, ℕ, ◌+◌, ◌-◌, ◌^◌, ◌<◌, ◌≤◌, Bool, true, false, cond, not, ◌&&◌, eqb, ltb, leb, List, ◌∷◌, length, get_or, Some, None, Ok, Option, sym, refl, ap, ◌∙◌, arith}
-use Rattle.std.proofs.lemmas.Bool.{and_parts, ltb-true, ltb-false, leb-true, eqb-true, eqb-false}
-use Rattle.refusal.specs.Questions.{answered}
+use Rattle.std.proofs.Common.{◌≡◌, ℕ, ◌^◌, ◌<◌, ◌≤◌, Bool, true, false, cond, eqb, List, length, get_or, sym, refl, ap, ◌∙◌, arith}
+use Rattle.std.proofs.lemmas.Bool.{and_parts, ltb-true, ltb-false, eqb-true, eqb-false}
 use Rattle.expander.specs.Meaning.{Expansion}
 use Rattle.plan.specs.declared.GateBody.{GateBody}
 use Rattle.plan.specs.declared.GateBody.TheVariants.{Sum, Scale, Product, Piece, Flag, Shift, SignedShift, Xor}
@@ -9,8 +8,8 @@ use Rattle.plan.specs.Plans as plan
 use Rattle.plan.specs.Plans.{Planned, wires, is_input, is_flag, row_at}
 use Rattle.plan.specs.Questions as plan_asks
 use Rattle.plan.specs.Questions.{plan_asks, within, owners_fit, interval_fits, all_below}
-use Rattle.layout.specs.Wires.{Wire, Gate, input, gate, wire_bytes}
-use Rattle.layout.specs.Books.{wire_count, laid_out}
+use Rattle.layout.specs.Wires.{Gate, input, gate, wire_bytes}
+use Rattle.layout.specs.Books.{laid_out}
 use Rattle.bodies.specs.Heads.{gives_flag, head_fits, reads_fit}
 use Rattle.bodies.specs.Allowed.{head, mask_allowed, GateAllowed, input_allowed}
 use Rattle.masks.specs.Masks.{masks, mask_of}

@@ -6,7 +6,6 @@ use Rattle.refusal.specs.declared.Refusal.TheVariants.{DealRoom, BookLength, Boo
 use Rattle.refusal.specs.Questions.{answered}
 use Rattle.expander.specs.Meaning.{Expansion}
 use Rattle.plan.specs.Questions.{plan_asks}
-use Rattle.layout.specs.Books.{book_length}
 use Rattle.dealer.specs.Book.{Order, header, dealt_body, dealt_length, dealt_book, deal_asks, written, dealt}
 use Rattle.reader.specs.Questions.{book_asks, book_answer}
 use Rattle.reader.proofs.Laid.{book_long}

@@ -1,6 +1,6 @@
 -- Masks and shares of a deal are in range, and keys have a row for each bit.
-use Rattle.std.proofs.Common.{◌≡◌, ℕ, zero, suc, ◌+◌, ◌-◌, ◌*◌, ◌%◌, ◌^◌, ◌<◌, ◌≤◌, Bool, true, false, cond, List, [], ◌∷◌, length, get_or, set, replicate, sym, refl, ap, ◌∙◌, arith, pow_pos, pow_mono}
-use lib.Bits.{bit_xor, xor_lt}
+use Rattle.std.proofs.Common.{◌≡◌, ℕ, zero, suc, ◌+◌, ◌-◌, ◌*◌, ◌%◌, ◌^◌, ◌<◌, ◌≤◌, Bool, true, false, cond, List, [], ◌∷◌, length, get_or, set, replicate, refl, arith, pow_pos, pow_mono}
+use lib.Bits.{xor_lt}
 use Rattle.std.proofs.lemmas.Nat.{mod_below}
 use Rattle.expander.specs.Meaning.{Expansion}
 use Rattle.group.specs.Flags.{flags}
@@ -15,9 +15,8 @@ use Rattle.dealing.specs.Dealing.{start, dealt_rows}
 use Rattle.plan.specs.declared.GateBody.{GateBody}
 use Rattle.plan.specs.declared.GateBody.TheVariants.{Sum, Scale, Product, Piece, Flag, Shift, SignedShift, Xor}
 use Rattle.plan.specs.Plans.{Planned, wires, is_input, row_at, gives_flag, is_flag, words_before}
-use Rattle.layout.specs.Wires as wire
 use Rattle.bodies.specs.Allowed.{key_allowed}
-use Rattle.masks.specs.Masks.{gate_mask, mask_at, masks_below, mask_of, masks}
+use Rattle.masks.specs.Masks.{gate_mask, mask_at, masks_below, mask_of}
 use Rattle.gatebytes.specs.Dealt.{dealt_gate}
 use Rattle.dealer.proofs.Longs.{rows_count}
 

@@ -1,7 +1,7 @@
 -- A deal of a plan that passes the questions: local gates keep held values right, and shares of keyed gates join.
-use Rattle.std.proofs.Common.{◌≡◌, ℕ, ◌+◌, ◌-◌, ◌*◌, ◌/◌, ◌%◌, ◌^◌, ◌<◌, ◌≤◌, Bool, true, false, cond, ◌&&◌, ltb, leb, List, [], ◌∷◌, length, get_or, drop, sym, refl, ap, ◌∙◌, subst, ap₂, add-zero, mod-lt, arith, get_or-drop, pow_pos}
+use Rattle.std.proofs.Common.{◌≡◌, ℕ, ◌+◌, ◌*◌, ◌%◌, ◌^◌, ◌<◌, ◌≤◌, Bool, true, false, cond, ltb, leb, List, [], ◌∷◌, length, get_or, drop, sym, refl, ap, ◌∙◌, subst, ap₂, add-zero, mod-lt, arith, get_or-drop, pow_pos}
 use lib.Bits.{bit_xor, xor_lt}
-use Rattle.std.proofs.lemmas.Bool.{and_parts, ltb-true, ltb-false, leb-true, lt-ltb, false≢true}
+use Rattle.std.proofs.lemmas.Bool.{and_parts, ltb-true, leb-true, lt-ltb, false≢true}
 use Rattle.expander.specs.Meaning.{Expansion}
 use Rattle.expander.specs.declared.Seed.{Seed}
 use Rattle.group.specs.Residues.{Residue}
@@ -10,7 +10,7 @@ use Rattle.key.specs.declared.BoxNumber.{BoxNumber}
 use Rattle.key.specs.declared.BoxNumber.TheVariants.{Zero, One}
 use Rattle.key.specs.Rows.{is_one}
 use Rattle.joining.specs.Joining.{AllWide, dealt_answer}
-use Rattle.interval.specs.Interval.{threshold, extra, masked, plain, answer}
+use Rattle.interval.specs.Interval.{threshold, extra, masked, answer}
 use Rattle.shares.specs.Words.{words as word-group, Word, word, quads, flag_word}
 use Rattle.shares.specs.Splits.{part_of_flags, part_of_element}
 use Rattle.shares.specs.Shifts.{low_threshold, low_payload, high_payload}
@@ -23,7 +23,7 @@ use Rattle.gates.specs.Flag.{flag_draws}
 use Rattle.gates.specs.Shift.{low_root0, low_root1, high_root0, high_root1}
 use Rattle.gates.proofs.Meeting.{dealt_keys_join}
 use Rattle.layout.specs.Bytes.{front}
-use Rattle.runs.specs.Plans.{Wiring, Deal, Dealt, AllWithin, hide_all, is_gate}
+use Rattle.runs.specs.Plans.{Wiring, Deal, Dealt, AllWithin, hide_all}
 use Rattle.plan.specs.declared.GateBody.{GateBody}
 use Rattle.plan.specs.declared.GateBody.TheVariants.{Sum, Scale, Product, Piece, Flag, Shift, SignedShift, Xor}
 use Rattle.plan.specs.Plans.{Planned, wires, is_input, is_flag, row_at, gives_flag, is_keyed, reads, words_of, words_before}
@@ -33,12 +33,12 @@ use Rattle.plan.proofs.Accepted.{Accepted, accepted, gate_reads, gate_fields}
 use Rattle.masks.specs.Masks.{gate_mask, masks, mask_of}
 use Rattle.gatebytes.specs.Dealt.{dealt_gate}
 use Rattle.sharing.specs.Laws.{DealsFit}
-use Rattle.boxview.specs.Sharing.{gate_share, gate_local, key_answer}
+use Rattle.boxview.specs.Sharing.{gate_share, gate_local}
 use Rattle.boxview.specs.Values.{values}
 use Rattle.sharing.specs.Wirings.{own, wiring_of, deal_of}
 use Rattle.sharing.proofs.Masks.{number_read, flag_read, mask_fine, gate_mask_is}
 use Rattle.sharing.proofs.Groups.{sum_held, scale_held, xor_held}
-use Rattle.sharing.proofs.Formed.{number_below, flag_below, gate_place}
+use Rattle.sharing.proofs.Formed.{number_below, gate_place}
 
 number_sum : (n : ℕ) (t : Bool) (x y : ℕ) → t ≡ false → (values n t).sum x y ≡ (x + y) % 2 ^ n
 number_sum n true x y e = absurd (false≢true (sym e))

@@ -1,9 +1,9 @@
 -- A plan that passes the questions is well formed.
-use Rattle.std.proofs.Common.{◌≡◌, ℕ, ◌+◌, ◌-◌, ◌*◌, ◌/◌, ◌%◌, ◌^◌, ◌<◌, ◌≤◌, Bool, true, false, cond, ◌&&◌, eqb, ltb, leb, ◌⊎◌, List, [], ◌∷◌, length, get_or, ℤ, pos, negsuc, sym, refl, ap, ◌∙◌, subst, inl, inr, mod-lt, div-le_self, arith, pow_pos}
-use lib.Bits.{bit_xor, xor_lt}
+use Rattle.std.proofs.Common.{◌≡◌, ℕ, ◌-◌, ◌^◌, ◌<◌, ◌≤◌, Bool, true, false, cond, ltb, leb, List, [], ◌∷◌, length, get_or, ℤ, pos, negsuc, sym, refl, subst, inl, inr, mod-lt, div-le_self, arith, pow_pos}
+use lib.Bits.{xor_lt}
 use lib.Signed.{shr_z}
 use Rattle.std.proofs.lemmas.List.{get_or_past}
-use Rattle.std.proofs.lemmas.Bool.{and_parts, ltb-true, ltb-false, leb-true, lt-ltb, le-ltb, cases_lt, cases_Bool, false≢true}
+use Rattle.std.proofs.lemmas.Bool.{and_parts, ltb-true, ltb-false, leb-true, lt-ltb, cases_lt, false≢true}
 use Rattle.interval.specs.Interval.{inside}
 use Rattle.shares.specs.Plain.{remainder, signed}
 use Rattle.runs.specs.Plans.{Wiring, Formed, AllBelow, AllWithin, is_gate}
@@ -15,7 +15,7 @@ use Rattle.plan.specs.Meaning.{plain_gate}
 use Rattle.plan.proofs.Accepted.{Accepted, accepted, gate_reads, gate_fields}
 use Rattle.sharing.specs.Laws.{PlansAreFormed}
 use Rattle.boxview.specs.Values.{values}
-use Rattle.sharing.specs.Wirings.{reads_at, wiring_of}
+use Rattle.sharing.specs.Wirings.{wiring_of}
 use Rattle.sharing.proofs.Masks.{number_read, flag_read}
 use Rattle.sharing.proofs.Groups.{values_lawful}
 

@@ -1,9 +1,9 @@
 -- The values of a wire form a group, and local gates act on held values as on plain ones.
-use Rattle.std.proofs.Common.{◌≡◌, ℕ, ◌+◌, ◌-◌, ◌*◌, ◌/◌, ◌%◌, ◌^◌, ◌<◌, ◌≤◌, Bool, true, false, sym, refl, ap, ◌∙◌, mod-lt, mod-eq_of_lt, add_comm, arith, pow_pos, pow_mono}
+use Rattle.std.proofs.Common.{◌≡◌, ℕ, ◌+◌, ◌-◌, ◌*◌, ◌/◌, ◌%◌, ◌^◌, ◌<◌, ◌≤◌, Bool, true, false, sym, ap, ◌∙◌, mod-lt, mod-eq_of_lt, add_comm, arith, pow_pos, pow_mono}
 use native.Mathlib.Nat.{mod-add-mod, add-mod-mod, add-mod_right, add-mul-mod_self_left, mod-add-div}
 use lib.Bits.{bit_xor, xor_comm, xor_lt, xor_assoc, xor_self, xor_zero_r}
 use Rattle.std.proofs.lemmas.Bool.{ltb-true, lt-ltb}
-use Rattle.runs.specs.Plans.{Group, Lawful}
+use Rattle.runs.specs.Plans.{Lawful}
 use Rattle.boxview.specs.Values.{numbers, flag_values, values}
 
 -- what was added is taken off again

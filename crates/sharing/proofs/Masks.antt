@@ -1,12 +1,11 @@
 -- The table of masks: each wire's own mask stands in it, in range for its wire.
-use Rattle.std.proofs.Common.{◌≡◌, ℕ, zero, suc, ◌+◌, ◌-◌, ◌*◌, ◌%◌, ◌^◌, ◌<◌, ◌≤◌, Bool, true, false, cond, not, ◌&&◌, ltb, leb, ◌⊎◌, List, [], ◌∷◌, length, get_or, set, replicate, sym, refl, ap, ◌∙◌, subst, ap₂, inl, inr, ⊎_elim, mod-lt, arith, lit<, length-set, get_or-set_other, get_or-set_same, pow_pos}
-use lib.Bits.{bit_xor, xor_lt}
-use lib.ListN.{length-replicate, get_or-replicate}
-use Rattle.std.proofs.lemmas.List.{get_or_past}
-use Rattle.std.proofs.lemmas.Bool.{and_parts, ltb-true, ltb-false, lt-ltb, le-ltb, cases_eq, cases_lt, cases_Bool, false≢true}
+use Rattle.std.proofs.Common.{◌≡◌, ℕ, zero, suc, ◌+◌, ◌*◌, ◌%◌, ◌^◌, ◌<◌, ◌≤◌, Bool, true, false, cond, not, ltb, List, length, get_or, sym, refl, ap, ◌∙◌, ap₂, inl, inr, arith, length-set, get_or-set_other, get_or-set_same}
+use lib.Bits.{bit_xor}
+use lib.ListN.{length-replicate}
+use Rattle.std.proofs.lemmas.Bool.{and_parts, ltb-true, lt-ltb, le-ltb, cases_eq, false≢true}
 use Rattle.plan.specs.declared.GateBody.{GateBody}
 use Rattle.plan.specs.declared.GateBody.TheVariants.{Sum, Scale, Product, Piece, Flag, Shift, SignedShift, Xor}
-use Rattle.plan.specs.Plans.{Planned, wires, is_input, is_flag, row_at, gives_flag, words_before}
+use Rattle.plan.specs.Plans.{Planned, wires, is_input, is_flag, row_at, words_before}
 use Rattle.plan.specs.Questions.{lower_number, lower_flag, reads_fit}
 use Rattle.plan.proofs.Accepted.{Accepted, gate_reads}
 use Rattle.returned.proofs.Ranges.{mask_small}
