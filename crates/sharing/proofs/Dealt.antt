@@ -11,7 +11,7 @@ use Rattle.key.specs.declared.BoxNumber.TheVariants.{Zero, One}
 use Rattle.key.specs.Rows.{is_one}
 use Rattle.joining.specs.Joining.{AllWide, dealt_answer}
 use Rattle.interval.specs.Interval.{threshold, extra, masked, answer}
-use Rattle.shares.specs.Words.{words as word-group, Word, word, quads, flag_word}
+use Rattle.shares.specs.Words.{words as word_group, Word, word, quads, flag_word}
 use Rattle.shares.specs.Splits.{part_of_flags, part_of_element}
 use Rattle.shares.specs.Shifts.{low_threshold, low_payload, high_payload}
 use Rattle.shares.specs.Plain.{plain_piece, plain_flag, plain_shift, plain_signed_shift, plain_product}
@@ -162,13 +162,13 @@ module _ (d x y : Expansion) (wide : AllWide d) (ex : d ≡ x) (ey : d ≡ y)
       let N : ℕ = 2 ^ p.width in
       let r : ℕ = get_or (masks p words) i 0 in
       let low : Expansion → Bool → Seed → ℕ → Word
-      = λ z one root. dealt_answer word-group d z s (low_threshold (2 ^ s) r) (word low_payload) (low_root0 w) (low_root1 w) one root in
+      = λ z one root. dealt_answer word_group d z s (low_threshold (2 ^ s) r) (word low_payload) (low_root0 w) (low_root1 w) one root in
       let high : Expansion → Bool → Seed → ℕ → Word
-      = λ z one root. dealt_answer word-group d z p.width r (word (high_payload N (2 ^ s))) (high_root0 w) (high_root1 w) one root in (
+      = λ z one root. dealt_answer word_group d z p.width r (word (high_payload N (2 ^ s))) (high_root0 w) (high_root1 w) one root in (
         shift_is_plain p.width s (masked N r v) r (get_or w 0 0 % N) (get_or w 9 0) (omega arith) a.few_bits (mod-lt _ (pow_pos p.width)) (mask_low i ei)
             (low x false (low_root0 w)) (low y true (low_root1 w)) (high x false (high_root0 w)) (high y true (high_root1 w)) (
-              dealt_keys_join word-group d x y s (low_threshold (2 ^ s) r) (word low_payload) (low_root0 w) (low_root1 w) wide ex ey (mod-lt r (pow_pos s)),
-              dealt_keys_join word-group d x y p.width r (word (high_payload N (2 ^ s))) (high_root0 w) (high_root1 w) wide ex ey (mask_low i ei),
+              dealt_keys_join word_group d x y s (low_threshold (2 ^ s) r) (word low_payload) (low_root0 w) (low_root1 w) wide ex ey (mod-lt r (pow_pos s)),
+              dealt_keys_join word_group d x y p.width r (word (high_payload N (2 ^ s))) (high_root0 w) (high_root1 w) wide ex ey (mask_low i ei),
             )
             ∙ ap (λ (m : ℕ). (plain_shift (2 ^ s) m + get_or w 0 0 % N) % N) ((held_is_plain N r (mask_low i ei)).0 v hv),
         elim [ Zero ↦ lt-ltb _ _ (mod-lt _ (pow_pos p.width)) | One ↦ lt-ltb _ _ (mod-lt _ (pow_pos p.width)) ],
@@ -181,13 +181,13 @@ module _ (d x y : Expansion) (wide : AllWide d) (ex : d ≡ x) (ey : d ≡ y)
       let N : ℕ = 2 ^ p.width in
       let r : ℕ = get_or (masks p words) i 0 in
       let low : Expansion → Bool → Seed → ℕ → Word
-      = λ z one root. dealt_answer word-group d z s (low_threshold (2 ^ s) r) (word low_payload) (low_root0 w) (low_root1 w) one root in
+      = λ z one root. dealt_answer word_group d z s (low_threshold (2 ^ s) r) (word low_payload) (low_root0 w) (low_root1 w) one root in
       let high : Expansion → Bool → Seed → ℕ → Word
-      = λ z one root. dealt_answer word-group d z p.width r (word (high_payload N (2 ^ s))) (high_root0 w) (high_root1 w) one root in (
+      = λ z one root. dealt_answer word_group d z p.width r (word (high_payload N (2 ^ s))) (high_root0 w) (high_root1 w) one root in (
         signed_shift_is_plain p.width s (masked N r v) r (get_or w 0 0 % N) (get_or w 9 0) hs a.few_bits (mod-lt _ (pow_pos p.width)) (mask_low i ei)
             (low x false (low_root0 w)) (low y true (low_root1 w)) (high x false (high_root0 w)) (high y true (high_root1 w)) (
-              dealt_keys_join word-group d x y s (low_threshold (2 ^ s) r) (word low_payload) (low_root0 w) (low_root1 w) wide ex ey (mod-lt r (pow_pos s)),
-              dealt_keys_join word-group d x y p.width r (word (high_payload N (2 ^ s))) (high_root0 w) (high_root1 w) wide ex ey (mask_low i ei),
+              dealt_keys_join word_group d x y s (low_threshold (2 ^ s) r) (word low_payload) (low_root0 w) (low_root1 w) wide ex ey (mod-lt r (pow_pos s)),
+              dealt_keys_join word_group d x y p.width r (word (high_payload N (2 ^ s))) (high_root0 w) (high_root1 w) wide ex ey (mask_low i ei),
             )
             ∙ ap (λ (m : ℕ). (plain_signed_shift N (2 ^ s) m + get_or w 0 0 % N) % N) ((held_is_plain N r (mask_low i ei)).0 v hv),
         elim [ Zero ↦ lt-ltb _ _ (mod-lt _ (pow_pos p.width)) | One ↦ lt-ltb _ _ (mod-lt _ (pow_pos p.width)) ],
