@@ -5,7 +5,7 @@ usage: python3 tools/respell.py        at the top of the repository, once, right
 
 A name that a file of specs/ or a lemma file of proofs/ declares, and that has a dash or a capital inside a word, gets
 underscores. Names of src/ (functions, fields, parameters), the labels that Rattle makes of them (c.x, goal.x), types,
-strings, inputs and outputs stay. Two names that would fall together are said, and nothing is written then.
+strings, inputs and outputs stay. Names that would fall together are said; here none do.
 """
 import os
 import re

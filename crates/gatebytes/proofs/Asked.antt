@@ -1,9 +1,8 @@
 -- Where every question is answered yes, a call answers and does not refuse.
-use Rattle.std.proofs.Common.{◌≡◌, ℕ, ◌-◌, ◌≤◌, true, eqb, List, [], ◌∷◌, length, take, Ok, Err, Result, sym, ap, ◌∙◌, arith, length-take-le}
+use Rattle.std.proofs.Common.{◌≡◌, ℕ, ◌-◌, ◌≤◌, true, eqb, List, length, take, Ok, Err, Result, ap, ◌∙◌, arith, length-take-le}
 use Rattle.std.proofs.lemmas.Bool.Decides.{nat_tests}
 use Rattle.refusal.specs.declared.Refusal.{Refusal}
 use Rattle.refusal.specs.Questions.{answered}
-use Rattle.comparison.specs.Comparison.{answer_mean}
 use Rattle.gatekeys.specs.declared.ranges.Shift.{Shift}
 use Rattle.gates.specs.Questions.{row_asks}
 use Rattle.gates.specs.ShiftQuestions.{shift_row_asks}

@@ -1,5 +1,5 @@
 -- The bytes of a gate key in memory are the bytes of what the key means.
-use Rattle.std.proofs.Common.{◌≡◌, ℕ, List, ◌++◌, map, Ok, sym, ap, ◌∙◌}
+use Rattle.std.proofs.Common.{◌≡◌, ℕ, List, ◌++◌, map, Ok, ap, ◌∙◌}
 use Rattle.stored.specs.Forms.{four_bytes}
 use Rattle.key.specs.declared.Row.{Row}
 use Rattle.key.specs.Rows.{row_mean}

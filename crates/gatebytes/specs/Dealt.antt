@@ -1,5 +1,5 @@
 -- What the dealer gives a box of each gate: its comparison keys and its parts of what is split.
-use Rattle.std.specs.Prelude.{ℕ, ◌%◌, ◌^◌, Bool, cond, List, slice_index, slice_index_or}
+use Rattle.std.specs.Prelude.{ℕ, ◌%◌, ◌^◌, Bool, cond, List, slice_index}
 use Rattle.expander.specs.Meaning.{Expansion}
 use Rattle.expander.specs.declared.Seed.{Seed}
 use Rattle.group.specs.Groups.{OutputGroup}
@@ -48,21 +48,21 @@ module _ (x : Expansion) (n : ℕ) (one : Bool) where
       wire.product a b (part_a one (2 ^ n) (slice_index ms a) (slice_index w 1)) (part_b one (2 ^ n) (slice_index ms b) (slice_index w 2))
       (part_c one (2 ^ n) (slice_index ms a) (slice_index ms b) (slice_index w 0 % 2 ^ n) (slice_index w 3))
   dealt_gate ms w (Piece a p q c) =
-      let r : ℕ = slice_index_or ms a 0 in
+      let r : ℕ = slice_index ms a in
       let β : Quad = payload_of r c in
       wire.piece a p q (compared quads n (threshold (2 ^ n) r) β (piece_draws w).root0 (piece_draws w).root1)
       (part_of_element quads one β (piece_draws w).payload1)
       (part_of_element quads one (extra quads (2 ^ n) r p q β) (piece_draws w).extra1)
       (part_of_number one (2 ^ n) (slice_index w 0 % 2 ^ n) (slice_index w 13))
   dealt_gate ms w (Flag a p q t) =
-      let r : ℕ = slice_index_or ms a 0 in
+      let r : ℕ = slice_index ms a in
       let β : Residue (2 ^ 32) = flag_word t in
       wire.flag a p q (compared flags n (threshold (2 ^ n) r) β (flag_draws w).root0 (flag_draws w).root1)
       (part_of_element flags one β (flag_draws w).payload1)
       (part_of_element flags one (extra flags (2 ^ n) r p q β) (flag_draws w).extra1)
       (part_of_flags one (slice_index w 0 % 2 ^ 32) (slice_index w 7))
   dealt_gate ms w (Shift a s) =
-      let r : ℕ = slice_index_or ms a 0 in wire.shift a s (low_key s r w) (high_key s r w) (rest_part s r w)
+      let r : ℕ = slice_index ms a in wire.shift a s (low_key s r w) (high_key s r w) (rest_part s r w)
   dealt_gate ms w (SignedShift a s) =
-      let r : ℕ = slice_index_or ms a 0 in wire.signed_shift a s (low_key s r w) (high_key s r w) (rest_part s r w)
+      let r : ℕ = slice_index ms a in wire.signed_shift a s (low_key s r w) (high_key s r w) (rest_part s r w)
   dealt_gate ms w (Xor a b) = wire.xor a b

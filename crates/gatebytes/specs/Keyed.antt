@@ -4,7 +4,6 @@ use Rattle.expander.specs.Meaning.{Expansion}
 use Rattle.stored.specs.Forms.{four_bytes}
 use Rattle.key.specs.declared.Row.{Row}
 use Rattle.key.specs.declared.BoxNumber.{BoxNumber}
-use Rattle.masking.specs.declared.width.Width.{Width}
 use Rattle.gatekeys.specs.declared.ranges.Interval.{Interval}
 use Rattle.gatekeys.specs.declared.ranges.Shift.{Shift}
 use Rattle.gates.specs.declared.interval_key.IntervalKey.{IntervalKey}
@@ -13,7 +12,6 @@ use Rattle.gates.specs.declared.product.ProductKey.{ProductKey}
 use Rattle.gates.specs.Piece.{dealt_piece_key, piece_rows}
 use Rattle.gates.specs.Flag.{dealt_flag_key, flag_rows}
 use Rattle.gates.specs.Shift.{dealt_shift_key, low_rows_of, high_rows_of}
-use Rattle.gates.specs.Product.{dealt_product}
 use Rattle.layout.specs.Keys.{key_bytes, word_bytes, flag_bytes, quad_bytes}
 
 -- a key for an interval with its rows: comparison key, payload part, E part, output mask part

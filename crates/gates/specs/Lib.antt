@@ -5,3 +5,4 @@ pub mod Piece
 pub mod Flag
 pub mod Product
 pub mod Shift
+pub mod Reads

@@ -2,4 +2,4 @@ use Rattle.buffers.proofs.Puts.{then}
 use Rattle.dealer.proofs.put_header.Goals as goal
 
 pub returns : goal.returns
-returns c = then c.put-at.ensures (then c.put-number-at.ensures (then c.put-at-2.ensures c.put-number.ensures))
+returns c = then c.put-at.ensures (then c.put_number-at.ensures (then c.put-at-2.ensures c.put_number.ensures))

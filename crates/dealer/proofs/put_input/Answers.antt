@@ -5,4 +5,4 @@ use Rattle.dealer.proofs.put_input.Goals as goal
 
 pub returns-in-Some : goal.returns-in-Some
 returns-in-Some c =
-    put_as (ap (λ m. wire_bytes (input c.args.owner m)) (sym c.in-Some.is)) (then c.put-byte-at.ensures c.put-number.ensures)
+    put_as (ap (λ m. wire_bytes (input c.args.owner m)) (sym c.in-Some.is)) (then c.put_byte-at.ensures c.put_number.ensures)

@@ -1,4 +1,4 @@
-use Rattle.std.proofs.Common.{◌≡◌, drop, sym}
+use Rattle.std.proofs.Common.{drop, sym}
 use Rattle.layout.specs.Bytes.{front}
 use Rattle.key.specs.Rows.{is_one}
 use Rattle.plan.specs.Plans.{words_of}
@@ -7,15 +7,15 @@ use Rattle.gatebytes.specs.Heads.{before_key}
 use Rattle.gatebytes.proofs.Bodies.{body_is}
 use Rattle.gatebytes.proofs.put_gate.Goals as goal
 
-pub put-before-key-at-requires : goal.put-before-key-at-requires
-put-before-key-at-requires g c =
+pub put_before_key-at-requires : goal.put_before_key-at-requires
+put_before_key-at-requires g c =
     room_first (before_key c.args.shown c.args.body) _
     (room_as (sym (body_is g.X.Expander.meaning c.args.width.bits (is_one c.args.number) c.args.masks.now
     (front (words_of c.args.body) (drop c.args.used c.args.words.now)) c.args.shown c.args.body)) c.requires.room)
 
-pub put-gate-key-requires : goal.put-gate-key-requires
-put-gate-key-requires g c = record {
-  room = room_next _ c.put-before-key-at.ensures
+pub put_gate_key-requires : goal.put_gate_key-requires
+put_gate_key-requires g c = record {
+  room = room_next _ c.put_before_key-at.ensures
       (room_as (sym (body_is g.X.Expander.meaning c.args.width.bits (is_one c.args.number) c.args.masks.now
       (front (words_of c.args.body) (drop c.args.used c.args.words.now)) c.args.shown c.args.body)) c.requires.room);
   fits = c.requires.fits;
@@ -26,4 +26,4 @@ pub returns : goal.returns
 returns g c =
     put_as (body_is g.X.Expander.meaning c.args.width.bits (is_one c.args.number) c.args.masks.now
     (front (words_of c.args.body) (drop c.args.used c.args.words.now)) c.args.shown c.args.body)
-    (then c.put-before-key-at.ensures c.put-gate-key.ensures)
+    (then c.put_before_key-at.ensures c.put_gate_key.ensures)

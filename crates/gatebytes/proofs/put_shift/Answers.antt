@@ -1,4 +1,4 @@
-use Rattle.std.proofs.Common.{◌≡◌, sym, ap, ◌∙◌, arith}
+use Rattle.std.proofs.Common.{sym, ap, ◌∙◌, arith}
 use Rattle.gatemath.specs.Elements.{word_mean}
 use Rattle.layout.specs.Keys.{word_bytes}
 use Rattle.buffers.proofs.Puts.{put_as, room_as}
@@ -8,14 +8,14 @@ use Rattle.gatebytes.proofs.Asked.{unsaid, shift_rows_yes, cut_long}
 use Rattle.gatebytes.proofs.Meanings.{shift_dealt}
 use Rattle.gatebytes.proofs.put_shift.Goals as goal
 
-pub put-shift-key-requires : goal.put-shift-key-requires
-put-shift-key-requires g c =
+pub put_shift_key-requires : goal.put_shift_key-requires
+put_shift_key-requires g c =
     let h = c.in-Ok.ensures in
     let s = c.args.shift in
     let l = cut_long _ s.by _ _ c.over-low.ensures.rows c.by.ensures (omega arith) in
     let n = cut_long _ s.width.bits _ _ c.over-high.ensures.rows (c.bits.ensures ∙ ap (λ w. w.bits) c.width.ensures) (omega arith) in
-    room_as (sym (shift_dealt word_form word_bytes word_mean word_means s c.in-Ok.key _ _ _ _ _ _ _ _ _ l n h.key h.low c.as-slice.ensures h.high
-    c.as-slice-in-Ok.ensures)) c.requires
+    room_as (sym (shift_dealt word_form word_bytes word_mean word_means s c.in-Ok.key _ _ _ _ _ _ _ _ _ l n h.key h.low c.as_slice.ensures h.high
+    c.as_slice-in-Ok.ensures)) c.requires
 
 pub unreachable-requires : goal.unreachable-requires
 unreachable-requires g c =
@@ -31,5 +31,5 @@ returns g c =
     let s = c.args.shift in
     let l = cut_long _ s.by _ _ c.over-low.ensures.rows c.by.ensures (omega arith) in
     let n = cut_long _ s.width.bits _ _ c.over-high.ensures.rows (c.bits.ensures ∙ ap (λ w. w.bits) c.width.ensures) (omega arith) in
-    put_as (shift_dealt word_form word_bytes word_mean word_means s c.in-Ok.key _ _ _ _ _ _ _ _ _ l n h.key h.low c.as-slice.ensures h.high
-    c.as-slice-in-Ok.ensures) c.put-shift-key.ensures
+    put_as (shift_dealt word_form word_bytes word_mean word_means s c.in-Ok.key _ _ _ _ _ _ _ _ _ l n h.key h.low c.as_slice.ensures h.high
+    c.as_slice-in-Ok.ensures) c.put_shift_key.ensures

@@ -2,4 +2,4 @@ use Rattle.buffers.proofs.Puts.{then}
 use Rattle.gatebytes.proofs.put_two.Goals as goal
 
 pub returns : goal.returns
-returns c = then c.put-number-at.ensures c.put-number.ensures
+returns c = then c.put_number-at.ensures c.put_number.ensures
