@@ -1,5 +1,5 @@
 -- Parts that a loop writes one after another.
-use Rattle.std.proofs.Common.{◌≡◌, ℕ, zero, suc, ◌+◌, ◌<◌, ◌≤◌, ◌⊎◌, List, [], ◌++◌, length, sym, refl, ap, ◌∙◌, inl, inr, add-one, arith, length-append}
+use Rattle.std.proofs.Common.{◌≡◌, ℕ, zero, suc, ◌+◌, ◌<◌, ◌≤◌, List, ◌++◌, length, sym, ap, inl, inr, add-one, arith, length-append}
 use Rattle.buffers.specs.Forms.{Put, Room}
 use Rattle.buffers.proofs.Puts.{then, put_as, put_long}
 use Rattle.std.proofs.lemmas.Bool.{cases_eq}

@@ -1,9 +1,8 @@
 -- The parts written make the book, and the answer is the deal's.
-use Rattle.std.proofs.Common.{◌≡◌, ℕ, ◌+◌, ◌*◌, ◌<◌, ◌≤◌, Bool, true, false, cond, leb, List, [], ◌∷◌, ◌++◌, length, drop, Ok, Err, Result, sym, refl, ap, ◌∙◌, arith, length-append}
+use Rattle.std.proofs.Common.{◌≡◌, ℕ, ◌+◌, ◌*◌, ◌<◌, ◌≤◌, Bool, true, false, cond, leb, List, [], ◌∷◌, ◌++◌, length, drop, Ok, Err, Result, sym, ap, ◌∙◌, arith, length-append}
 use Rattle.std.proofs.lemmas.Bool.Decides.{nat_tests}
 use Rattle.refusal.specs.declared.Refusal.{Refusal}
 use Rattle.refusal.specs.declared.Refusal.TheVariants.{DealRoom}
-use Rattle.refusal.specs.Questions.{answered}
 use Rattle.stored.specs.Forms.{four_bytes}
 use Rattle.expander.specs.Meaning.{Expansion}
 use Rattle.plan.specs.Plans.{wires}
@@ -13,7 +12,7 @@ use Rattle.layout.specs.Books.{header_bytes, entry_bytes}
 use Rattle.buffers.specs.Forms.{Put}
 use Rattle.buffers.proofs.Puts.{put_at_start}
 use Rattle.dealer.specs.Lengths.{place, entry}
-use Rattle.dealer.specs.Book.{Order, header, header_of, dealt_body, dealt_length, dealt_book, deal_asks, written, dealt}
+use Rattle.dealer.specs.Book.{Order, header, header_of, dealt_body, dealt_length, dealt_book, written, dealt}
 use Rattle.dealer.proofs.Accepted.{passed, more_asked, no_more}
 use Rattle.dealer.proofs.Longs.{body_long, bodies_long, contents_long}
 

@@ -1,5 +1,5 @@
 -- What is written for a wire is the wire's body.
-use Rattle.std.proofs.Common.{◌≡◌, ℕ, ◌<◌, ◌≤◌, Bool, true, false, cond, eqb, List, length, get_or, drop, Option, sym, refl, ap, ◌∙◌, arith}
+use Rattle.std.proofs.Common.{◌≡◌, ℕ, ◌<◌, ◌≤◌, Bool, true, false, cond, eqb, List, length, get_or, drop, Option, sym, ap, ◌∙◌, arith}
 use Rattle.std.proofs.lemmas.Bool.Decides.{nat_tests}
 use Rattle.expander.specs.Meaning.{Expansion}
 use Rattle.plan.specs.Plans.{Planned, is_input, row_at, words_of, words_before}
@@ -7,7 +7,7 @@ use Rattle.layout.specs.Bytes.{front}
 use Rattle.layout.specs.Wires.{gate, input, wire_bytes}
 use Rattle.masks.specs.Masks.{masks}
 use Rattle.gatebytes.specs.Dealt.{dealt_gate}
-use Rattle.dealer.specs.Book.{Order, order, when, gate_words, dealt_body}
+use Rattle.dealer.specs.Book.{order, when, gate_words, dealt_body}
 
 module _ (x : Expansion) (p : Planned) (b : ℕ) (words : List ℕ) (k : ℕ) (ms : List ℕ) (mask : ℕ) (given : Option ℕ)
     (table : ms ≡ masks p words) (own : mask ≡ get_or ms k 0) where

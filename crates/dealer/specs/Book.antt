@@ -4,7 +4,7 @@ use Rattle.refusal.specs.declared.Refusal.{Refusal}
 use Rattle.refusal.specs.declared.Refusal.TheVariants.{DealRoom}
 use Rattle.refusal.specs.Questions.{answered}
 use Rattle.expander.specs.Meaning.{Expansion}
-use Rattle.plan.specs.Plans.{Planned, wires, is_input, row_at, words_of, words_before}
+use Rattle.plan.specs.Plans.{Planned, is_input, row_at, words_of, words_before}
 use Rattle.plan.specs.Questions.{plan_asks}
 use Rattle.layout.specs.Bytes.{front}
 use Rattle.layout.specs.Wires.{Wire, input, gate, wire_bytes}

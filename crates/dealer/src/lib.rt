@@ -73,7 +73,7 @@ fn rest_len(width: u8, body: GateBody) -> usize
 fn body_len(plan: Plan, number: u8, k: usize) -> usize
     requires { (Allowed (planned plan.width plan.owners.now plan.rows.now)) × (k < length plan.owners.now + length plan.rows.now) }
     ensures { result ≡ body_length
-        (planned plan.width plan.owners.now plan.rows.now) number k }
+        (planned plan.entry.width plan.entry.owners.now plan.entry.rows.now) number k }
 {
     let inputs = plan.owners.len();
     if k < inputs {
@@ -87,8 +87,8 @@ fn body_len(plan: Plan, number: u8, k: usize) -> usize
 
 fn book_len(plan: Plan, number: u8) -> usize
     requires { Allowed (planned plan.width plan.owners.now plan.rows.now) }
-    ensures { result ≡ place (planned plan.width plan.owners.now plan.rows.now) number
-        (length plan.owners.now + length plan.rows.now) }
+    ensures { result ≡ place (planned plan.entry.width plan.entry.owners.now plan.entry.rows.now) number
+        (length plan.entry.owners.now + length plan.entry.rows.now) }
 {
     let wires = plan.owners.len() + plan.rows.len();
     let mut end = 16 + 8 * wires;
@@ -103,7 +103,7 @@ fn book_len(plan: Plan, number: u8) -> usize
 fn put_header(out: &mut [u8], kind: u8, plan: Plan, number: u8, deal: u32, long: u32) -> usize
     requires { (16 ≤ length out.old) × ((length plan.owners.now ≤ 16) × (length plan.rows.now ≤ 32)) }
     ensures { Put out.old 0 (header_bytes (header_of kind
-        (order (planned plan.width plan.owners.now plan.rows.now) number deal [])) long)
+        (order (planned plan.entry.width plan.entry.owners.now plan.entry.rows.now) number deal [])) long)
         out.new result }
 {
     let at = put(out, 0, &[1, number, kind, plan.width]);
@@ -121,8 +121,8 @@ fn put_contents(out: &mut [u8], start: usize, plan: Plan, number: u8) -> usize
     requires room { Room out.old start (joined (entry (planned plan.width plan.owners.now plan.rows.now) number)
         (length plan.owners.now + length plan.rows.now)) }
     ensures { Put out.old start
-        (joined (entry (planned plan.width plan.owners.now plan.rows.now) number)
-        (length plan.owners.now + length plan.rows.now)) out.new result }
+        (joined (entry (planned plan.entry.width plan.entry.owners.now plan.entry.rows.now) number)
+        (length plan.entry.owners.now + length plan.entry.rows.now)) out.new result }
 {
     let wires = plan.owners.len() + plan.rows.len();
     let mut at = start;
@@ -165,7 +165,7 @@ fn put_wire<X: Expander>(
     requires room { Room out.old at (dealt_body X.Expander.meaning
         (order (planned plan.width plan.owners.now plan.rows.now) number 0 words.now) k) }
     ensures { Put out.old at (dealt_body X.Expander.meaning
-        (order (planned plan.width plan.owners.now plan.rows.now) number 0 words.now) k)
+        (order (planned plan.entry.width plan.entry.owners.now plan.entry.rows.now) number 0 words.now) k)
         out.new result }
 {
     let inputs = plan.owners.len();
@@ -206,8 +206,8 @@ fn put_bodies<X: Expander>(
         (order (planned plan.width plan.owners.now plan.rows.now) number 0 words.now))
         (length plan.owners.now + length plan.rows.now)) }
     ensures { Put out.old start (joined (dealt_body X.Expander.meaning
-        (order (planned plan.width plan.owners.now plan.rows.now) number 0 words.now))
-        (length plan.owners.now + length plan.rows.now)) out.new result }
+        (order (planned plan.entry.width plan.entry.owners.now plan.entry.rows.now) number 0 words.now))
+        (length plan.entry.owners.now + length plan.entry.rows.now)) out.new result }
 {
     let mut at = start;
     let mut used = 0;
@@ -229,7 +229,7 @@ pub fn deal<X: Expander>(
     out: &mut [u8],
 ) -> Result<usize, Refusal>
     ensures book { (result, out.new) ≡ dealt X.Expander.meaning
-        (order (planned plan.width plan.owners.now plan.rows.now) number deal words.now)
+        (order (planned plan.entry.width plan.entry.owners.now plan.entry.rows.now) number deal words.now)
         out.old }
     ensures bound { IfOk result (λ long. long ≤ 54880) }
 {

@@ -1,6 +1,5 @@
 use Rattle.std.proofs.Common.{◌+◌, ◌≤◌, arith, rules}
 use Rattle.plan.specs.Plans.{planned}
-use Rattle.dealer.specs.Lengths.{place, lengths_below, body_length}
 use Rattle.dealer.proofs.Shorts.{lengths_more, lengths_short}
 use Rattle.dealer.proofs.book_len.Goals as goal
 

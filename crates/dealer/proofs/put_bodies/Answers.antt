@@ -1,4 +1,4 @@
-use Rattle.std.proofs.Common.{◌≡◌, refl, arith}
+use Rattle.std.proofs.Common.{refl, arith}
 use Rattle.plan.specs.Plans.{planned}
 use Rattle.buffers.proofs.Puts.{put_none}
 use Rattle.masks.proofs.Tables.{words_more}

@@ -1,4 +1,4 @@
-use Rattle.std.proofs.Common.{◌≡◌, ◌+◌, ◌≤◌, ◌++◌, sym, refl, ap, arith, rules}
+use Rattle.std.proofs.Common.{◌+◌, ◌≤◌, ◌++◌, sym, arith, rules}
 use Rattle.stored.specs.Forms.{four_bytes}
 use Rattle.plan.specs.Plans.{planned}
 use Rattle.buffers.proofs.Puts.{put_as, room_as, put_none}

@@ -1,4 +1,4 @@
-use Rattle.std.proofs.Common.{◌≡◌, sym, ap}
+use Rattle.std.proofs.Common.{sym, ap}
 use Rattle.layout.specs.Wires.{input, wire_bytes}
 use Rattle.buffers.proofs.Puts.{then, put_as}
 use Rattle.dealer.proofs.put_input.Goals as goal

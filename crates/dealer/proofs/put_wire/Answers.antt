@@ -1,4 +1,4 @@
-use Rattle.std.proofs.Common.{◌≡◌, ◌-◌, length, sym, refl, ap, ◌∙◌}
+use Rattle.std.proofs.Common.{◌-◌, length, sym, refl, ap, ◌∙◌}
 use Rattle.plan.specs.Plans.{planned, row_at}
 use Rattle.plan.specs.Questions.{fields_fit}
 use Rattle.buffers.proofs.Puts.{put_as, room_as}
