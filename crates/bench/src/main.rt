@@ -2,7 +2,6 @@
 #![tactic(auto)]
 
 ghost use Rattle.std.specs.Prelude.{◌≡◌, ◌%◌, ◌^◌, true, length};
-ghost use Rattle.std.specs.Int.Bits.{bit_xor};
 ghost use Rattle.dealing.specs.Dealing.{dealt_last, start};
 ghost use Rattle.evaluation.specs.Evaluation.{evaluated};
 ghost use Rattle.bench.specs.Workloads.{level, levels, place, root, sum_of};
