@@ -4,7 +4,7 @@ use Rattle.std.proofs.lemmas.Fmt.{decimal_by_steps}
 use Rattle.std.proofs.lemmas.List.{length_push}
 use Rattle.std.proofs.lemmas.Bool.{and_parts, and_from, cond-true}
 use Rattle.std.proofs.lemmas.Bool.Decides.{nat_tests}
-use Rattle.std.specs.List.{AllByRecursion as All}
+use Rattle.std.specs.List.{AllByRecursion}
 use Rattle.expander.specs.declared.Seed.{Seed}
 use Rattle.orders.specs.declared.types.Wrong.{Wrong}
 use Rattle.orders.specs.declared.types.Wrong.TheVariants.{NotNumber, TooLarge, NotHex, SeedLength}
@@ -36,7 +36,7 @@ pieces_front c (b ∷ bs) rest h =
     rw no (ap (onto b) (pieces_front c bs rest p.1))
 
 -- cutting undoes joining
-pub pieces_joined : (c : ℕ) (w : List ℕ) (ws : List (List ℕ)) → All (λ v. lacks c v ≡ true) (w ∷ ws)
+pub pieces_joined : (c : ℕ) (w : List ℕ) (ws : List (List ℕ)) → AllByRecursion (λ v. lacks c v ≡ true) (w ∷ ws)
     → pieces c (joined_by c (w ∷ ws)) ≡ w ∷ ws
 pieces_joined c w [] h = pieces_plain c w h.0
 pieces_joined c w (v ∷ ws) h = pieces_front c w (joined_by c (v ∷ ws)) h.0 ∙ ap (λ ps. w ∷ ps) (pieces_joined c v ws h.1)
@@ -45,16 +45,16 @@ pieces_joined c w (v ∷ ws) h = pieces_front c w (joined_by c (v ∷ ws)) h.0 �
 abbrev pub Word : List ℕ → Type 0
 Word w = (0 < length w) × (lacks 32 w ≡ true)
 
-filled_all : (ws : List (List ℕ)) → All Word ws → filled ws ≡ ws
+filled_all : (ws : List (List ℕ)) → AllByRecursion Word ws → filled ws ≡ ws
 filled_all [] h = refl
 filled_all ([] ∷ ws) h = absurd (omega (arith, h.0.0))
 filled_all ((b ∷ bs) ∷ ws) h = ap (λ vs. (b ∷ bs) ∷ vs) (filled_all ws h.1)
 
-lacking : (ws : List (List ℕ)) → All Word ws → All (λ v. lacks 32 v ≡ true) ws
+lacking : (ws : List (List ℕ)) → AllByRecursion Word ws → AllByRecursion (λ v. lacks 32 v ≡ true) ws
 lacking [] h = tt
 lacking (w ∷ ws) h = (h.0.1, lacking ws h.1)
 
-pub words_joined : (ws : List (List ℕ)) → All Word ws → words (joined_by 32 ws) ≡ ws
+pub words_joined : (ws : List (List ℕ)) → AllByRecursion Word ws → words (joined_by 32 ws) ≡ ws
 words_joined [] h = refl
 words_joined (w ∷ ws) h = ap filled (pieces_joined 32 w ws (lacking (w ∷ ws) h)) ∙ filled_all (w ∷ ws) h
 
@@ -110,7 +110,7 @@ hex_digit_worth d h = grind (arith, nat_tests)
 hex_apart : (c : ℕ) → hex c ≡ true → eqb c 32 ≡ false
 hex_apart c h = grind (arith, nat_tests)
 
-hexes_text : (bs : List ℕ) → All (λ b. b < 256) bs → hexes (hex_text bs) ≡ true
+hexes_text : (bs : List ℕ) → AllByRecursion (λ b. b < 256) bs → hexes (hex_text bs) ≡ true
 hexes_text [] h = refl
 hexes_text (b ∷ bs) h =
     and_from (hex (hex_digit (b / 16))) _ (hex_digit_is (b / 16) (omega (arith, h.0)))
@@ -120,7 +120,7 @@ length_hex_text : (bs : List ℕ) → length (hex_text bs) ≡ 2 * length bs
 length_hex_text [] = refl
 length_hex_text (b ∷ bs) = omega (arith, length_hex_text bs)
 
-hex_bytes_text : (bs : List ℕ) → All (λ b. b < 256) bs → hex_bytes (hex_text bs) ≡ bs
+hex_bytes_text : (bs : List ℕ) → AllByRecursion (λ b. b < 256) bs → hex_bytes (hex_text bs) ≡ bs
 hex_bytes_text [] h = refl
 hex_bytes_text (b ∷ bs) h =
     let high = hex_digit_worth (b / 16) (omega (arith, h.0)) in

@@ -1,7 +1,7 @@
 -- What a gate takes, written and read back.
 use Rattle.std.proofs.Common.{◌≡◌, ℕ, suc, ◌^◌, ◌<◌, true, cond, eqb, List, [], ◌∷◌, length, Ok, Err, decimal, Result, refl, ap, ◌∙◌, arith, eq-eqb}
 use Rattle.std.proofs.lemmas.Bool.{cond-true}
-use Rattle.std.specs.List.{AllByRecursion as All}
+use Rattle.std.specs.List.{AllByRecursion}
 use Rattle.orders.specs.declared.types.GateBody.{GateBody}
 use Rattle.orders.specs.declared.types.GateBody.TheVariants as gate
 use Rattle.orders.specs.declared.types.GateName.{GateName}
@@ -47,15 +47,15 @@ name_back (gate.Scale mask c d) = refl
 name_back (gate.Xor mask mask2) = refl
 
 -- numbers with commas between them
-decimals_words : (ns : List ℕ) → All (λ n. n < 2 ^ 64) ns → All Word (decimals ns)
+decimals_words : (ns : List ℕ) → AllByRecursion (λ n. n < 2 ^ 64) ns → AllByRecursion Word (decimals ns)
 decimals_words [] h = tt
 decimals_words (n ∷ ns) h = (decimal_word n h.0, decimals_words ns h.1)
 
-decimals_plain : (ns : List ℕ) → All (λ n. n < 2 ^ 64) ns → All (λ w. lacks 44 w ≡ true) (decimals ns)
+decimals_plain : (ns : List ℕ) → AllByRecursion (λ n. n < 2 ^ 64) ns → AllByRecursion (λ w. lacks 44 w ≡ true) (decimals ns)
 decimals_plain [] h = tt
 decimals_plain (n ∷ ns) h = (plain n h.0, decimals_plain ns h.1)
 
-numbers_back : (ns : List ℕ) → All (λ n. n < 2 ^ 64) ns → numbers_from (decimals ns) ≡ Ok ns
+numbers_back : (ns : List ℕ) → AllByRecursion (λ n. n < 2 ^ 64) ns → numbers_from (decimals ns) ≡ Ok ns
 numbers_back [] h = refl
 numbers_back (n ∷ ns) h = next _ (word_back n h.0) ∙ next _ (numbers_back ns h.1)
 
@@ -81,9 +81,9 @@ random_back count (n ∷ ns) some h =
     ∙ numbers_back (n ∷ ns) h.1
 
 abbrev Coefficients : List ℕ → Type 0
-Coefficients cs = (length cs ≡ 4) × All (λ n. n < 2 ^ 32) cs
+Coefficients cs = (length cs ≡ 4) × AllByRecursion (λ n. n < 2 ^ 32) cs
 
-wider : (ns : List ℕ) → All (λ n. n < 2 ^ 32) ns → All (λ n. n < 2 ^ 64) ns
+wider : (ns : List ℕ) → AllByRecursion (λ n. n < 2 ^ 32) ns → AllByRecursion (λ n. n < 2 ^ 64) ns
 wider [] h = tt
 wider (n ∷ ns) h = (omega (arith, h.0), wider ns h.1)
 
@@ -153,7 +153,7 @@ short_word n h = decimal_word n (omega arith)
 byte_word : (n : ℕ) → n < 256 → Word (decimal n)
 byte_word n h = decimal_word n (omega arith)
 
-body_fits : (b : GateBody) → BodyFits b → All Word (body_words b)
+body_fits : (b : GateBody) → BodyFits b → AllByRecursion Word (body_words b)
 body_fits (gate.Piece mask low high coefficients random) h = (
   short_word mask h.0,
   (short_word low h.1, (short_word high h.2, (coefficients_word coefficients h.3, (random_word 14 random (omega arith) h.4, tt)))),
@@ -169,6 +169,6 @@ body_fits (gate.Sum mask mask2) h = (short_word mask h.0, (short_word mask2 h.1,
 body_fits (gate.Scale mask c d) h = (short_word mask h.0, (short_word c h.1, (short_word d h.2, tt)))
 body_fits (gate.Xor mask mask2) h = (short_word mask h.0, (short_word mask2 h.1, tt))
 
-pub gate_fits : (g : GateOrder) → GateFits g → All Word (gate_words g)
+pub gate_fits : (g : GateOrder) → GateFits g → AllByRecursion Word (gate_words g)
 gate_fits g h =
     ((omega arith, refl), (kind_word g.kind, (name_word g.body, (byte_word g.width h.width, body_fits g.body h.body))))

@@ -1,7 +1,7 @@
 -- The line that writes an order is parsed back to that order.
 use Rattle.std.proofs.Common.{◌≡◌, ℕ, ◌^◌, ◌<◌, cond, eqb, List, [], ◌∷◌, length, Some, None, Ok, Err, decimal, Result, refl, ap, ◌∙◌, arith, ne_eqb}
 use Rattle.std.proofs.lemmas.Bool.{cond-false}
-use Rattle.std.specs.List.{AllByRecursion as All}
+use Rattle.std.specs.List.{AllByRecursion}
 use Rattle.orders.specs.declared.types.DealOrder.{DealOrder}
 use Rattle.orders.specs.declared.types.Fault.{Fault}
 use Rattle.orders.specs.declared.types.Group.{Group}
@@ -79,7 +79,7 @@ deal_back d h =
     ∙ next _ (placed_ok _ 7 _ d.root0 (seed_word d.root0 h.root0).0 (seed_back d.root0 h.root0))
     ∙ next _ (placed_ok _ 8 _ d.root1 (seed_word d.root1 h.root1).0 (seed_back d.root1 h.root1))
 
-line_fits : (o : Order) → OrderFits o → All Word (line_words o)
+line_fits : (o : Order) → OrderFits o → AllByRecursion Word (line_words o)
 line_fits Nothing h = tt
 line_fits (Deal d) h = (
   (omega arith, refl),

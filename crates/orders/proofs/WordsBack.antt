@@ -1,7 +1,7 @@
 -- Words of a line, read back one by one.
 use Rattle.std.proofs.Common.{◌≡◌, ℕ, ◌^◌, ◌<◌, true, not, eqb, List, [], ◌∷◌, ◌++◌, length, Ok, Err, decimal, Result, refl, ap, ◌∙◌, arith, length-append, ne_eqb}
 use Rattle.std.proofs.lemmas.Bool.{cond-false, and_from, and_parts}
-use Rattle.std.specs.List.{AllByRecursion as All}
+use Rattle.std.specs.List.{AllByRecursion}
 use Rattle.orders.specs.declared.types.Kind.{Kind}
 use Rattle.orders.specs.declared.types.Kind.TheVariants.{Aes, ChaCha, Zero}
 use Rattle.orders.specs.declared.types.Wrong.{Wrong}
@@ -30,7 +30,7 @@ lacks_append c (x ∷ xs) ys h k =
     let p = and_parts (not (eqb x c)) (lacks c xs) h in
     and_from (not (eqb x c)) (lacks c (xs ++ ys)) p.0 (lacks_append c xs ys p.1 k)
 
-pub joined_word : (v : List ℕ) (vs : List (List ℕ)) → All Word (v ∷ vs) → Word (joined_by 44 (v ∷ vs))
+pub joined_word : (v : List ℕ) (vs : List (List ℕ)) → AllByRecursion Word (v ∷ vs) → Word (joined_by 44 (v ∷ vs))
 joined_word v [] h = h.0
 joined_word v (w ∷ vs) h =
     let rest = joined_by 44 (w ∷ vs) in (

@@ -1,6 +1,6 @@
 -- The line that writes an order: single spaces, numbers as they are printed, lowercase hex.
 use Rattle.std.specs.Prelude.{◌≡◌, ℕ, ◌+◌, ◌/◌, ◌%◌, ◌^◌, ◌<◌, cond, List, [], ◌∷◌, ◌++◌, length, Some, None, Ok, codes, decimal, Result, nat_lt}
-use Rattle.std.specs.List.{AllByRecursion as All}
+use Rattle.std.specs.List.{AllByRecursion}
 use Rattle.expander.specs.declared.Seed.{Seed}
 use Rattle.orders.specs.declared.types.DealOrder.{DealOrder}
 use Rattle.orders.specs.declared.types.Fault.{Fault}
@@ -101,7 +101,7 @@ PayloadFits (Pair a b) = (a < 2 ^ 64) × (b < 2 ^ 32)
 PayloadFits (Quad a b c d) = (a < 2 ^ 64) × (b < 2 ^ 64) × (c < 2 ^ 64) × (d < 2 ^ 64)
 
 abbrev pub SeedFits : Seed → Type 0
-SeedFits seed = (length seed.bytes ≡ 16) × All (λ b. b < 256) seed.bytes
+SeedFits seed = (length seed.bytes ≡ 16) × AllByRecursion (λ b. b < 256) seed.bytes
 
 pub record DealFits (d : DealOrder) : Type 0 where
   pub width : d.width < 256
@@ -112,12 +112,12 @@ pub record DealFits (d : DealOrder) : Type 0 where
 
 -- so many random words of 64 bits
 abbrev pub RandomFits : ℕ → List ℕ → Type 0
-RandomFits count random = (length random ≡ count) × All (λ n. n < 2 ^ 64) random
+RandomFits count random = (length random ≡ count) × AllByRecursion (λ n. n < 2 ^ 64) random
 
 abbrev pub BodyFits : GateBody → Type 0
 BodyFits (gate.Piece mask low high coefficients random) =
     (mask < 2 ^ 32) × (low < 2 ^ 32) × (high < 2 ^ 32)
-    × ((length coefficients ≡ 4) × All (λ n. n < 2 ^ 32) coefficients) × RandomFits 14 random
+    × ((length coefficients ≡ 4) × AllByRecursion (λ n. n < 2 ^ 32) coefficients) × RandomFits 14 random
 BodyFits (gate.Flag mask low high pattern random) =
     (mask < 2 ^ 32) × (low < 2 ^ 32) × (high < 2 ^ 32) × (pattern < 2 ^ 32) × RandomFits 8 random
 BodyFits (gate.Shift mask by random) = (mask < 2 ^ 32) × (by < 256) × RandomFits 10 random
