@@ -12,13 +12,13 @@ pub struct Zero;
 impl Expander for Zero {
     ghost meaning = { zeros };
 
+    ghost KIND = { 3 };
+
     const KIND: u8 = 3;
 
-    ghost wide = { Prim.search rules };
+    ghost kind_of_meaning = { Prim.search rules };
 
-    fn kind_number() -> u8 {
-        Self::KIND
-    }
+    ghost wide = { Prim.search rules };
 
     fn branch(&self, _seed: Seed) -> Branches {
         let zero = Seed { bytes: [0; 16] };
