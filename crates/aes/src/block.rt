@@ -17,6 +17,7 @@ fn word_at(bytes: &[u8; 16], i: usize) -> u32
     u32::from_be_bytes(bytes_at(bytes, i))
 }
 
+// Stays: `from_bytes` and `to_bytes` are named as those of words are, by the order of bytes; `From` would say no more.
 impl Block {
     pub fn from_bytes(bytes: &[u8; 16]) -> Block
         ensures { block_bytes result ≡ bytes.now }
