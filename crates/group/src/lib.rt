@@ -1,12 +1,16 @@
 // Output groups: what the answers of a comparison key are added in.
 #![tactic(auto)]
 
-ghost use Rattle.std.specs.Prelude.{◌≡◌, ◌^◌, ◌%◌, ◌≤◌};
+ghost use Rattle.std.specs.Prelude.{◌≡◌, ◌^◌, ◌%◌, ◌≤◌, Some, codes, decimal};
+ghost use Rattle.std.specs.Fmt.{◌++?◌};
 ghost use Rattle.std.proofs.Common.{lit<};
 ghost use Rattle.group.specs.Groups.{OutputGroup, minus};
 ghost use Rattle.group.specs.Residues.{Residue, reduce, residues};
 ghost use Rattle.group.specs.Flags.{flags};
 ghost use Rattle.group.specs.Pairs.{both};
+ghost use Rattle.group.specs.Quads.{quad_from};
+
+use std::fmt;
 
 pub trait Group: Copy {
     // What elements mean, and the group that their meanings form. The laws are laws of meanings: two elements may
@@ -68,6 +72,14 @@ impl Group for Word {
     }
 }
 
+impl fmt::Display for Word {
+    ghost output = { λ w. Some (decimal w.0) };
+
+    fn fmt<W: fmt::Write>(&self, f: &mut fmt::Formatter<W>) -> fmt::Result {
+        write!(f, "{}", self.0)
+    }
+}
+
 // 32-bit flags under XOR.
 #[derive(Clone, Copy)]
 pub struct Flags(pub u32);
@@ -100,8 +112,16 @@ impl Group for Flags {
     }
 }
 
+impl fmt::Display for Flags {
+    ghost output = { λ w. Some (decimal w.0) };
+
+    fn fmt<W: fmt::Write>(&self, f: &mut fmt::Formatter<W>) -> fmt::Result {
+        write!(f, "{}", self.0)
+    }
+}
+
 // A word's low 32 bits.
-fn low_half(word: u64) -> u32
+pub fn low_half(word: u64) -> u32
     ensures { result ≡ word % 2 ^ 32 }
 {
     (word % 0x1_0000_0000) as u32
@@ -122,8 +142,7 @@ impl<L: Group, R: Group> Group for Pair<L, R> {
     ghost mean = { λ p. (L.Group.mean p.left, R.Group.mean p.right) };
 
     fn words() -> usize {
-        let all = L::words() + R::words();
-        if all > 9 { 9 } else { all }
+        (L::words() + R::words()).min(9)
     }
 
     fn zero() -> Pair<L, R> {
@@ -154,7 +173,34 @@ impl<L: Group, R: Group> Group for Pair<L, R> {
     }
 }
 
+// Its parts, with a comma between.
+impl<L: fmt::Display, R: fmt::Display> fmt::Display for Pair<L, R> {
+    ghost output = { λ p. L.Display.output p.left ++? Some (codes ",") ++? R.Display.output p.right };
+
+    fn fmt<W: fmt::Write>(&self, f: &mut fmt::Formatter<W>) -> fmt::Result {
+        write!(f, "{},{}", self.left, self.right)
+    }
+}
+
 pub type Quad = Pair<Pair<Word, Word>, Pair<Word, Word>>;
+
+// Four words, in their order.
+impl From<[u64; 4]> for Quad {
+    ghost from_gives = { λ words quad. quad ≡ quad_from words };
+
+    fn from([a, b, c, d]: [u64; 4]) -> Quad {
+        Pair {
+            left: Pair {
+                left: Word(a),
+                right: Word(b),
+            },
+            right: Pair {
+                left: Word(c),
+                right: Word(d),
+            },
+        }
+    }
+}
 
 // The difference of two elements.
 pub fn difference<G: Group>(a: G, b: G) -> G
