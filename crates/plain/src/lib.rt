@@ -41,9 +41,11 @@ fn holds(interval: Interval, v: u32) -> bool
 fn curve(coefficients: [u32; 4], v: u32) -> u128
     ensures { result ≡ curve (get_or coefficients 0 0) (get_or coefficients 1 0) (get_or coefficients 2 0) (get_or coefficients 3 0) v }
 {
-    let [c0, c1, c2, c3] = coefficients.map(u128::from);
+    let [c0, c1, c2, c3] = coefficients;
     let v = u128::from(v);
-    c0 + c1 * v + c2 * v * v + c3 * v * v * v
+    let square = u128::from(c2) * v * v;
+    let cube = u128::from(c3) * v * v * v;
+    u128::from(c0) + u128::from(c1) * v + square + cube
 }
 
 // The cubic with these coefficients, lowest first, where the value is in the interval; else 0.
