@@ -1,12 +1,13 @@
 // Writing a comparison key: its root, its rows one after another, its final element.
 ghost use Rattle.std.specs.Prelude.{◌≡◌};
 ghost use Rattle.buffers.specs.Forms.{Put, Room};
-ghost use Rattle.layout.specs.Keys.{row_bytes, rows_bytes, key_bytes, seed_bytes, bits};
+ghost use Rattle.layout.specs.Keys.{row_bytes, rows_bytes, key_bytes, seed_bytes};
 
+use crate::bits::Bits;
 use buffers::Writer;
 use expander::Seed;
 use group::Group;
-use key::Row;
+use key::{KeyEnds, Row};
 use stored::StoredGroup;
 
 pub fn put_element<G: StoredGroup>(writer: &mut Writer, element: G)
@@ -25,19 +26,15 @@ pub fn put_seed(writer: &mut Writer, seed: Seed)
     writer.put(&seed.bytes);
 }
 
-// The byte of a row's two bits.
-fn bits_of(left: bool, right: bool) -> u8
-    ensures { result ≡ bits left right }
-{
-    u8::from(left) + 2 * u8::from(right)
-}
-
 pub fn put_row<G: StoredGroup>(writer: &mut Writer, row: &Row<G>)
     requires { Room writer.old (row_bytes G.StoredGroup.form row.now) }
     ensures { Put writer.old (row_bytes G.StoredGroup.form row.now) writer.new }
 {
     put_seed(writer, row.word);
-    writer.put_byte(bits_of(row.left, row.right));
+    writer.put_byte(u8::from(Bits {
+        left: row.left,
+        right: row.right,
+    }));
     put_element(writer, row.element);
 }
 
@@ -51,11 +48,11 @@ pub fn put_rows<G: StoredGroup>(writer: &mut Writer, rows: &[Row<G>])
 }
 
 // Writes a key.
-pub fn put_key<G: StoredGroup>(writer: &mut Writer, root: Seed, rows: &[Row<G>], last: G)
-    requires { Room writer.old (key_bytes G.StoredGroup.form root rows.now last) }
-    ensures { Put writer.old (key_bytes G.StoredGroup.form root rows.now last) writer.new }
+pub fn put_key<G: StoredGroup>(writer: &mut Writer, ends: KeyEnds<G>, rows: &[Row<G>])
+    requires { Room writer.old (key_bytes G.StoredGroup.form ends.root rows.now ends.last) }
+    ensures { Put writer.old (key_bytes G.StoredGroup.form ends.root rows.now ends.last) writer.new }
 {
-    put_seed(writer, root);
+    put_seed(writer, ends.root);
     put_rows(writer, rows);
-    put_element(writer, last);
+    put_element(writer, ends.last);
 }

@@ -1,5 +1,5 @@
 use Rattle.std.proofs.Common.{[], ◌∷◌, ap, arith}
-use Rattle.buffers.proofs.Puts.{then, put_as, room_first, room_next}
+use Rattle.buffers.proofs.Puts.{then, put_as, room_next}
 use Rattle.layout.specs.Keys.{bits}
 use Rattle.keyform.proofs.writing.put_row.Goals as goal
 
@@ -11,9 +11,9 @@ put_byte-requires g c =
 
 pub put_element-requires : goal.put_element-requires
 put_element-requires g c =
-    room_next _ (put_as (ap (λ b. b ∷ []) c.bits_of.ensures) c.put_byte.ensures)
+    room_next _ (put_as (ap (λ b. b ∷ []) c.from.ensures) c.put_byte.ensures)
     (room_next _ c.put_seed.ensures c.requires)
 
 pub returns : goal.returns
 returns g c =
-    then c.put_seed.ensures (then (put_as (ap (λ b. b ∷ []) c.bits_of.ensures) c.put_byte.ensures) c.put_element.ensures)
+    then c.put_seed.ensures (then (put_as (ap (λ b. b ∷ []) c.from.ensures) c.put_byte.ensures) c.put_element.ensures)

@@ -1,7 +1,7 @@
 use Rattle.std.proofs.Common.{◌≡◌, ℕ, ◌+◌, ◌<◌, List, ◌++◌, length, get_or, drop, sym, ap, ◌∙◌}
 use Rattle.std.proofs.lemmas.List.{at_drop_more, at_drop_all}
 use Rattle.key.specs.declared.Row.{Row}
-use Rattle.buffers.proofs.Puts.{owes_as, owes_less, owes_none, room_owed}
+use Rattle.buffers.proofs.Puts.{owes_as, owes_less, owes_none}
 use Rattle.layout.specs.Keys.{rows_bytes, row_bytes}
 use Rattle.keyform.proofs.writing.put_rows.Goals as goal
 

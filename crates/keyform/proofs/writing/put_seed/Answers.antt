@@ -1,5 +1,5 @@
 use Rattle.std.proofs.Common.{sym, rules}
-use Rattle.buffers.proofs.Puts.{put_as, room_as}
+use Rattle.buffers.proofs.Puts.{put_as}
 use Rattle.keyform.proofs.Fronts.{front_all}
 use Rattle.keyform.proofs.writing.put_seed.Goals as goal
 
