@@ -16,7 +16,5 @@ pub fn product_share(number: BoxNumber, width: Width, m: u32, k: u32, a: u32, b:
     let ka = width.scale_mask(k, a);
     let mk = width.reduce(number_if(number.is_one(), u64::from(m) * u64::from(k)));
     let size = width.size();
-    width.reduce(
-        u64::from(c) + u64::from(mk) + (size - u64::from(mb)) + (size - u64::from(ka)),
-    )
+    width.reduce(u64::from(c) + u64::from(mk) + (size - u64::from(mb)) + (size - u64::from(ka)))
 }
