@@ -8,6 +8,8 @@ use crate::splits::number_if;
 use key::BoxNumber;
 use masking::Width;
 
+// Stays: a, b and c are a struct in keyform, which has bytes and no arithmetic; a second one here would be no plainer.
+
 // C − m × B − k × A, to which box 1 adds m × k.
 pub fn product_share(number: BoxNumber, width: Width, m: u32, k: u32, a: u32, b: u32, c: u32) -> u32
     ensures { result ≡ product_share (is_one number) (size width) m k a b c }

@@ -108,6 +108,9 @@ impl<G: Shared> Fresh<IntervalKey<G>> {
     }
 }
 
+// Stays: `dealer, box0, box1` and `rows0, rows1`: structs of references, made at each call and taken apart here, are no
+// plainer.
+
 // A dealer and two boxes, each with an expander of its own: deals a gate, answers at both boxes at the held value m, and
 // joins the shares. Where the three expanders have one meaning and kind, the join is the plain meaning under the output
 // mask.

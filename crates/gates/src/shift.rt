@@ -23,7 +23,7 @@ use gatemath::{
     low_bits, low_key_payload, number_part, point_at, rest_for, shift_share, step_count,
 };
 use group::{Group, Word};
-use key::{BoxNumber, Roots, Row, Rows};
+use key::{BoxNumber, Roots, Rows};
 use keyform::ShiftParts;
 use masking::{Masked, Share};
 use refusal::Refusal;
@@ -141,32 +141,30 @@ pub fn deal_shift<X: Expander>(
 }
 
 impl ShiftKey<Word> {
-    fn share_at<X: Expander>(
-        &self,
-        expander: &X,
-        sign: Sign,
-        low: &[Row<Word>],
-        high: &[Row<Word>],
-        m: u32,
-    ) -> u32
+    // A box's share at the held value m.
+    fn share_at<X: Expander>(&self, expander: &X, sign: Sign, rows: &ShiftRows, m: u32) -> u32
         ensures { let N = size self.now.shift.width in let S = step_of self.now.shift in let h = asked_at sign N m in
             result ≡ share_by sign (is_one self.now.number) N S m
-            (low_at X.Expander.meaning word_mean self.now low.now (low_point S h)).0
-            (high_at X.Expander.meaning word_mean self.now high.now h).0 self.now.parts.rest }
+            (low_at X.Expander.meaning word_mean self.now rows.now.low.rows.now (low_point S h)).0
+            (high_at X.Expander.meaning word_mean self.now rows.now.high.rows.now h).0 self.now.parts.rest }
     {
         let at = point_at(sign, self.shift.width(), m);
         let below = low_bits(self.shift, at);
-        let at_low = answer(expander, self.number, self.parts.low, low, below);
-        let at_high = answer(expander, self.number, self.parts.high, high, at);
-        shift_share(
-            sign,
+        let low = answer(
+            expander,
             self.number,
-            self.shift,
-            m,
-            at_low,
-            at_high,
-            self.parts.rest,
-        )
+            self.parts.low,
+            rows.low.as_slice(),
+            below,
+        );
+        let high = answer(
+            expander,
+            self.number,
+            self.parts.high,
+            rows.high.as_slice(),
+            at,
+        );
+        shift_share(sign, self.number, self.shift, m, low, high, self.parts.rest)
     }
 }
 
@@ -184,13 +182,7 @@ impl Fresh<ShiftKey<Word>> {
         ensures width { result.width ≡ self.key.shift.width }
     {
         let width = self.key.shift.width();
-        let own = self.key.share_at(
-            expander,
-            sign,
-            rows.low.as_slice(),
-            rows.high.as_slice(),
-            m.0,
-        );
+        let own = self.key.share_at(expander, sign, rows, m.0);
         Half::new(width, Share(own))
     }
 }
