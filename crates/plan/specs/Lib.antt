@@ -1,4 +1,7 @@
+pub mod Gates
 pub mod Plans
 pub mod Questions
 pub mod Meaning
 pub mod Order
+pub mod Allowed
+pub mod Checked
