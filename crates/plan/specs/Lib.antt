@@ -5,3 +5,4 @@ pub mod Meaning
 pub mod Order
 pub mod Allowed
 pub mod Checked
+pub mod Lengths

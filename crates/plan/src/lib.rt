@@ -8,9 +8,11 @@ ghost use Rattle.plan.specs.Order.{SmallerIsTold};
 mod asking;
 mod checked;
 mod gates;
+mod lengths;
 
 pub use asking::check_plan;
 pub use checked::CheckedPlan;
+pub use lengths::compared_long;
 pub use gates::{
     Gate, GateBody, GateHead, GateKind, UnknownKind, Wires, below, interval_fits, shift_fits,
 };
