@@ -63,8 +63,24 @@ fn head_of(number: u8, a: u8, b: u8, rest: &[u8]) -> Option<GateHead>
         GateKind::Sum => Some(GateHead::Sum { a, b }),
         GateKind::Scale => lone(b, GateHead::Scale { a, c, d }),
         GateKind::Product => Some(GateHead::Product { a, b }),
-        GateKind::Piece => lone(b, GateHead::Piece { a, p: c, q: d, c: () }),
-        GateKind::Flag => lone(b, GateHead::Flag { a, p: c, q: d, pattern: () }),
+        GateKind::Piece => lone(
+            b,
+            GateHead::Piece {
+                a,
+                p: c,
+                q: d,
+                c: (),
+            },
+        ),
+        GateKind::Flag => lone(
+            b,
+            GateHead::Flag {
+                a,
+                p: c,
+                q: d,
+                pattern: (),
+            },
+        ),
         GateKind::Shift => lone(b, GateHead::Shift { a, s }),
         GateKind::SignedShift => lone(b, GateHead::SignedShift { a, s }),
         GateKind::Xor => Some(GateHead::Xor { a, b }),
