@@ -1,7 +1,7 @@
 // The random words of a plan's wires, and the mask of every wire.
 #![tactic(auto)]
 
-ghost use Rattle.std.specs.Prelude.{◌≡◌, ◌+◌, ◌≤◌, length, slice_index};
+ghost use Rattle.std.specs.Prelude.{◌≡◌, ◌+◌, ◌≤◌, length, drop, slice_index};
 ghost use Rattle.plan.specs.Plans.{stated, words_at};
 ghost use Rattle.layout.specs.Bytes.{front};
 ghost use Rattle.masks.specs.Masks.{gate_mask, wire_mask, masks};
@@ -10,11 +10,25 @@ use masking::{Width, xor};
 use plan::{GateBody, Plan, PlanWire};
 use std::array;
 
+// A random word; 0 past the last.
+fn word_in(words: &[u64], i: usize) -> u64
+    ensures { result ≡ slice_index words.now i }
+{
+    words.get(i).copied().unwrap_or(0)
+}
+
+// What follows the first n random words.
+fn after(words: &[u64], n: usize) -> &[u64]
+    ensures { result.now ≡ drop n words.now }
+{
+    words.get(n..).unwrap_or(&[])
+}
+
 // As many random words as a gate takes; 0 past the last.
 pub fn words_from<const K: usize>(words: &[u64]) -> [u64; K]
     ensures { result ≡ front K words.now }
 {
-    array::from_fn(|i| words.get(i).copied().unwrap_or(0))
+    array::from_fn(|i| word_in(words, i))
 }
 
 // A wire's mask in the table.
@@ -66,8 +80,8 @@ pub fn masks_of(width: Width, plan: Plan, words: &[u64]) -> [u32; 48]
     let mut left = words;
     for k in 0..plan.wires() {
         let wire = plan.wire(k);
-        masks[k] = wire_mask(width, &masks, left.first().copied().unwrap_or(0), wire);
-        left = left.get(wire.words()..).unwrap_or(&[]);
+        masks[k] = wire_mask(width, &masks, word_in(left, 0), wire);
+        left = after(left, wire.words());
     }
     masks
 }
