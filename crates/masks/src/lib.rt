@@ -1,11 +1,12 @@
 // The random words of a plan's wires, and the mask of every wire.
 #![tactic(auto)]
 
-ghost use Rattle.std.specs.Prelude.{◌≡◌, ◌+◌, ◌≤◌, length, drop, slice_index};
+ghost use Rattle.std.specs.Prelude.{◌≡◌, ◌+◌, ◌≤◌, length, slice_index};
 ghost use Rattle.plan.specs.Plans.{stated, words_at};
 ghost use Rattle.layout.specs.Bytes.{front};
 ghost use Rattle.masks.specs.Masks.{gate_mask, wire_mask, masks};
 
+use layout::after;
 use masking::{Width, xor};
 use plan::{GateBody, Plan, PlanWire};
 use std::array;
@@ -15,13 +16,6 @@ fn word_in(words: &[u64], i: usize) -> u64
     ensures { result ≡ slice_index words.now i }
 {
     words.get(i).copied().unwrap_or(0)
-}
-
-// What follows the first n random words.
-fn after(words: &[u64], n: usize) -> &[u64]
-    ensures { result.now ≡ drop n words.now }
-{
-    words.get(n..).unwrap_or(&[])
 }
 
 // As many random words as a gate takes; 0 past the last.
