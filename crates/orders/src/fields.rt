@@ -1,7 +1,7 @@
 // Words of a line as what they must be.
 ghost use Rattle.std.specs.Prelude.{◌≡◌};
 ghost use Rattle.std.specs.Fn.{FnOnceReturnsAt};
-ghost use Rattle.orders.specs.Grammar.{kind_of, group_of, parts, payload_of, placed, ended};
+ghost use Rattle.orders.specs.Grammar.{kind_of, group_of, parts, payload_of, placed, field, ended};
 ghost use Rattle.orders.specs.Text.{words, nth, pieces, number_of};
 ghost use Rattle.std.specs.Prelude.{[], slice_index_or};
 
@@ -56,6 +56,15 @@ pub fn field<T: Drop, F: FnOnce(&[u8]) -> Result<T, Wrong>>(
 {
     let word = word_at(line, n);
     placed(word, n, read(word))
+}
+
+// Word number `n` as a decimal number of a type.
+pub fn number_at<N: Number>(line: &[u8], n: usize) -> Result<N, Fault>
+    ensures { result ≡ field (number_of N.held N.MOST) (words line.now) n }
+{
+    // Stays: two lines, and not `field(line, n, number_of)`: a function of a type parameter that is passed gets no proof.
+    let number_word = word_at(line, n);
+    placed(number_word, n, number_of(number_word))
 }
 
 // No word number `n`: then all is read, and `x` is what was read.

@@ -4,8 +4,8 @@ ghost use Rattle.orders.specs.declared.types.GateName.TheVariants.{Piece, Flag, 
 ghost use Rattle.orders.specs.Grammar.{gate_name_of, coefficients_of, random_words_of, two_masks_of, shift_of, body_of, gate_of, hold_of};
 ghost use Rattle.orders.specs.Text.{words};
 
-use crate::fields::{ended, field, kind_of, number_part};
-use crate::text::{number_of, pieces_of, word_at};
+use crate::fields::{ended, field, kind_of, number_at, number_part};
+use crate::text::{pieces_of, word_at};
 use crate::types::{Fault, GateBody, GateName, GateOrder, Order, Wrong};
 
 pub fn gate_name_of(word: &[u8]) -> Result<GateName, Wrong>
@@ -57,9 +57,9 @@ pub fn random_words_of<const K: usize>(word: &[u8]) -> Result<[u64; K], Wrong>
 fn piece_body(line: &[u8]) -> Result<GateBody, Fault>
     ensures { result ≡ body_of Piece (words line.now) }
 {
-    let mask = field(line, 5, number_of)?;
-    let low = field(line, 6, number_of)?;
-    let high = field(line, 7, number_of)?;
+    let mask = number_at(line, 5)?;
+    let low = number_at(line, 6)?;
+    let high = number_at(line, 7)?;
     let coefficients = field(line, 8, coefficients_of)?;
     let words = field(line, 9, random_words_of::<14>)?;
     ended(
@@ -79,10 +79,10 @@ fn piece_body(line: &[u8]) -> Result<GateBody, Fault>
 fn flag_body(line: &[u8]) -> Result<GateBody, Fault>
     ensures { result ≡ body_of Flag (words line.now) }
 {
-    let mask = field(line, 5, number_of)?;
-    let low = field(line, 6, number_of)?;
-    let high = field(line, 7, number_of)?;
-    let pattern = field(line, 8, number_of)?;
+    let mask = number_at(line, 5)?;
+    let low = number_at(line, 6)?;
+    let high = number_at(line, 7)?;
+    let pattern = number_at(line, 8)?;
     let words = field(line, 9, random_words_of::<8>)?;
     ended(
         line,
@@ -101,8 +101,8 @@ fn flag_body(line: &[u8]) -> Result<GateBody, Fault>
 fn shift_fields(line: &[u8]) -> Result<(u32, u8, [u64; 10]), Fault>
     ensures { result ≡ shift_of (words line.now) }
 {
-    let mask = field(line, 5, number_of)?;
-    let by = field(line, 6, number_of)?;
+    let mask = number_at(line, 5)?;
+    let by = number_at(line, 6)?;
     let words = field(line, 7, random_words_of)?;
     ended(line, 8, (mask, by, words))
 }
@@ -111,8 +111,8 @@ fn shift_fields(line: &[u8]) -> Result<(u32, u8, [u64; 10]), Fault>
 fn product_body(line: &[u8]) -> Result<GateBody, Fault>
     ensures { result ≡ body_of Product (words line.now) }
 {
-    let mask = field(line, 5, number_of)?;
-    let mask2 = field(line, 6, number_of)?;
+    let mask = number_at(line, 5)?;
+    let mask2 = number_at(line, 6)?;
     let words = field(line, 7, random_words_of::<4>)?;
     ended(line, 8, GateBody::Product { mask, mask2, words })
 }
@@ -121,8 +121,8 @@ fn product_body(line: &[u8]) -> Result<GateBody, Fault>
 fn two_masks(line: &[u8]) -> Result<(u32, u32), Fault>
     ensures { result ≡ two_masks_of (words line.now) }
 {
-    let mask = field(line, 5, number_of)?;
-    let mask2 = field(line, 6, number_of)?;
+    let mask = number_at(line, 5)?;
+    let mask2 = number_at(line, 6)?;
     ended(line, 7, (mask, mask2))
 }
 
@@ -130,9 +130,9 @@ fn two_masks(line: &[u8]) -> Result<(u32, u32), Fault>
 fn scale_body(line: &[u8]) -> Result<GateBody, Fault>
     ensures { result ≡ body_of Scale (words line.now) }
 {
-    let mask = field(line, 5, number_of)?;
-    let c = field(line, 6, number_of)?;
-    let d = field(line, 7, number_of)?;
+    let mask = number_at(line, 5)?;
+    let c = number_at(line, 6)?;
+    let d = number_at(line, 7)?;
     ended(line, 8, GateBody::Scale { mask, c, d })
 }
 
@@ -170,7 +170,7 @@ pub fn gate_order(line: &[u8]) -> Result<GateOrder, Fault>
 {
     let kind = field(line, 2, kind_of)?;
     let name = field(line, 3, gate_name_of)?;
-    let width = field(line, 4, number_of)?;
+    let width = number_at(line, 4)?;
     let body = body_of(name, line)?;
     Ok(GateOrder { kind, width, body })
 }
@@ -179,10 +179,10 @@ pub fn gate_order(line: &[u8]) -> Result<GateOrder, Fault>
 pub fn hold_order(line: &[u8]) -> Result<Order, Fault>
     ensures { result ≡ hold_of (words line.now) }
 {
-    let m = field(line, 2, number_of)?;
+    let m = number_at(line, 2)?;
     if word_at(line, 3).is_empty() {
         return Ok(Order::Hold(m, None));
     }
-    let k = field(line, 3, number_of)?;
+    let k = number_at(line, 3)?;
     ended(line, 4, Order::Hold(m, Some(k)))
 }

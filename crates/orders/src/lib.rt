@@ -12,7 +12,7 @@ mod number;
 mod text;
 mod types;
 
-pub use fields::{ended, field, group_of, kind_of, number_part, payload_of};
+pub use fields::{ended, field, group_of, kind_of, number_at, number_part, payload_of};
 pub use gates::{coefficients_of, gate_name_of, random_words_of};
 use gates::{gate_order, hold_order};
 pub use number::Number;
@@ -27,8 +27,8 @@ fn deal_order(line: &[u8]) -> Result<DealOrder, Fault>
 {
     let kind = field(line, 2, kind_of)?;
     let group = field(line, 3, group_of)?;
-    let width = field(line, 4, number_of)?;
-    let threshold = field(line, 5, number_of)?;
+    let width = number_at(line, 4)?;
+    let threshold = number_at(line, 5)?;
     let payload = field(line, 6, |word| payload_of(group, word))?;
     let root0 = field(line, 7, seed_of)?;
     let root1 = field(line, 8, seed_of)?;
@@ -50,7 +50,7 @@ fn deal_order(line: &[u8]) -> Result<DealOrder, Fault>
 fn point_order(line: &[u8]) -> Result<u32, Fault>
     ensures { result ≡ point_of (words line.now) }
 {
-    let point = field(line, 2, number_of)?;
+    let point = number_at(line, 2)?;
     ended(line, 3, point)
 }
 
