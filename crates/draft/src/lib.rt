@@ -22,6 +22,7 @@ pub struct Draft {
 fn push_numbers<N: Number>(list: &mut Vec<N>, word: &[u8], count: usize) -> Result<(), AllocError>
     ensures { OnOk result (list.new.items ≡ list.old.items ++ numbers_held N.held N.MOST word.now count) }
 {
+    // Stays: by their places, since past the last number of the word stand zeros.
     for k in 0..count {
         list.push(N::hold(number_in(word, k, N::MOST)))?;
     }

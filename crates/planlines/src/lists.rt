@@ -9,11 +9,10 @@ use orders::{Wrong, decimal, hex_digit, hex_pair, piece_at, pieces_of};
 pub fn numbers_in(word: &[u8], most: u64) -> Result<usize, Wrong>
     ensures { result ≡ numbers_in most word.now }
 {
-    let count = pieces_of(word, b',');
-    for k in 0..count {
-        decimal(piece_at(word, b',', k), most)?;
+    for piece in word.split(|b| *b == b',') {
+        decimal(piece, most)?;
     }
-    Ok(count)
+    Ok(pieces_of(word, b','))
 }
 
 // Number `k` of a word, counted from 0; 0 where there is none.
