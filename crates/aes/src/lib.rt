@@ -1,7 +1,7 @@
 // AES-128 by tables, and the expander of kind 1 that is made of it.
 #![tactic(auto)]
 
-ghost use Rattle.std.specs.Prelude.{◌≡◌, ◌+◌, ◌≤◌};
+ghost use Rattle.std.specs.Prelude.{◌≡◌, ◌+◌, ◌≤◌, refl};
 ghost use Rattle.aes.specs.Keys.{key_of};
 ghost use Rattle.standards.specs.Fips197.{cipher};
 ghost use Rattle.standards.specs.Kinds.{kind1, long_at, number};
@@ -50,13 +50,13 @@ fn word_at(block: &[u8; 16], i: usize) -> u64
 impl Expander for Aes128 {
     ghost meaning = { kind1 };
 
+    ghost KIND = { 1 };
+
     const KIND: u8 = 1;
 
-    ghost wide = { λ seed. wide1 seed };
+    ghost kind_of_meaning = { refl };
 
-    fn kind_number() -> u8 {
-        Self::KIND
-    }
+    ghost wide = { λ seed. wide1 seed };
 
     fn branch(&self, seed: Seed) -> Branches {
         let keys = RoundKeys::new(&seed.bytes);

@@ -1,7 +1,7 @@
 // ChaCha20, and the expander of kind 2 that is made of it.
 #![tactic(auto)]
 
-ghost use Rattle.std.specs.Prelude.{◌≡◌, ◌+◌, ◌≤◌};
+ghost use Rattle.std.specs.Prelude.{◌≡◌, ◌+◌, ◌≤◌, refl};
 ghost use Rattle.standards.specs.Kinds.{kind2, block2, seed_at, long_at};
 ghost use Rattle.standards.proofs.Lengths.{wide2};
 
@@ -54,13 +54,13 @@ fn word_at(block: &[u8; 64], i: usize) -> u64
 impl Expander for ChaCha20 {
     ghost meaning = { kind2 };
 
+    ghost KIND = { 2 };
+
     const KIND: u8 = 2;
 
-    ghost wide = { λ seed. wide2 seed };
+    ghost kind_of_meaning = { refl };
 
-    fn kind_number() -> u8 {
-        Self::KIND
-    }
+    ghost wide = { λ seed. wide2 seed };
 
     fn branch(&self, seed: Seed) -> Branches {
         let seeds = seed_block(seed, 0);

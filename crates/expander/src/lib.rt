@@ -1,7 +1,7 @@
 // Expanders: two functions of a seed, and the kind number that a book names.
 #![tactic(auto)]
 
-ghost use Rattle.std.specs.Prelude.{◌≡◌};
+ghost use Rattle.std.specs.Prelude.{◌≡◌, ℕ};
 ghost use Rattle.expander.specs.declared.Seed.{Seed};
 ghost use Rattle.expander.specs.Meaning.{Expansion, Wide};
 ghost use Rattle.expander.specs.Seeds.{xor_seeds};
@@ -38,11 +38,10 @@ pub trait Expander {
     // hold three implementations of one meaning.
     ghost meaning: { Expansion };
 
-    const KIND: u8;
+    // The number of its kind, as the meaning has it.
+    ghost KIND: { ℕ };
 
-    // The constant KIND, for generic code.
-    fn kind_number() -> u8
-        ensures { result ≡ meaning.kind };
+    const KIND: u8;
 
     fn branch(&self, seed: Seed) -> Branches
         ensures { result ≡ meaning.branch seed };
@@ -50,6 +49,9 @@ pub trait Expander {
     // Eight words from which elements of an output group are made.
     fn draw(&self, seed: Seed) -> [u64; 8]
         ensures { result ≡ meaning.draw seed };
+
+    // A book names the kind of the meaning.
+    ghost kind_of_meaning: { KIND ≡ meaning.kind };
 
     // Branching gives whole seeds.
     ghost wide: { (seed : Seed) → Wide (meaning.branch seed) };

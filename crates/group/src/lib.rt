@@ -7,6 +7,7 @@ ghost use Rattle.group.specs.Groups.{OutputGroup, minus};
 ghost use Rattle.group.specs.Residues.{Residue, reduce, residues};
 ghost use Rattle.group.specs.Flags.{flags};
 ghost use Rattle.group.specs.Pairs.{both};
+ghost use Rattle.group.specs.Quads.{quad_from};
 
 pub trait Group: Copy {
     // What elements mean, and the group that their meanings form. The laws are laws of meanings: two elements may
@@ -101,7 +102,7 @@ impl Group for Flags {
 }
 
 // A word's low 32 bits.
-fn low_half(word: u64) -> u32
+pub fn low_half(word: u64) -> u32
     ensures { result ≡ word % 2 ^ 32 }
 {
     (word % 0x1_0000_0000) as u32
@@ -122,8 +123,7 @@ impl<L: Group, R: Group> Group for Pair<L, R> {
     ghost mean = { λ p. (L.Group.mean p.left, R.Group.mean p.right) };
 
     fn words() -> usize {
-        let all = L::words() + R::words();
-        if all > 9 { 9 } else { all }
+        (L::words() + R::words()).min(9)
     }
 
     fn zero() -> Pair<L, R> {
@@ -155,6 +155,24 @@ impl<L: Group, R: Group> Group for Pair<L, R> {
 }
 
 pub type Quad = Pair<Pair<Word, Word>, Pair<Word, Word>>;
+
+// Four words, in their order.
+impl From<[u64; 4]> for Quad {
+    ghost from_gives = { λ words quad. quad ≡ quad_from words };
+
+    fn from([a, b, c, d]: [u64; 4]) -> Quad {
+        Pair {
+            left: Pair {
+                left: Word(a),
+                right: Word(b),
+            },
+            right: Pair {
+                left: Word(c),
+                right: Word(d),
+            },
+        }
+    }
+}
 
 // The difference of two elements.
 pub fn difference<G: Group>(a: G, b: G) -> G

@@ -1,13 +1,13 @@
 // The rows of a comparison key, in a table over the caller's memory.
 #![tactic(auto)]
 
-ghost use Rattle.std.specs.Prelude.{◌≡◌, length, set};
+ghost use Rattle.std.specs.Prelude.{◌≡◌, if◌then◌else◌, length, set};
 ghost use Rattle.key.specs.Rows.{is_one, row_bit};
 
 use expander::Seed;
 
 // Which of the two boxes: box 0 or box 1.
-#[derive(Clone, Copy)]
+#[derive(Clone, Copy, PartialEq, Eq)]
 pub enum BoxNumber {
     Zero,
     One,
@@ -17,11 +17,34 @@ impl BoxNumber {
     pub fn is_one(self) -> bool
         ensures { result ≡ is_one self }
     {
-        match self {
-            BoxNumber::Zero => false,
-            BoxNumber::One => true,
+        self == BoxNumber::One
+    }
+}
+
+// The roots that a key is dealt from, one for each box.
+#[derive(Clone, Copy)]
+pub struct Roots {
+    pub zero: Seed,
+    pub one: Seed,
+}
+
+impl Roots {
+    // A box's own root.
+    pub fn of(self, number: BoxNumber) -> Seed
+        ensures { result ≡ (if is_one number then self.one else self.zero) }
+    {
+        match number {
+            BoxNumber::Zero => self.zero,
+            BoxNumber::One => self.one,
         }
     }
+}
+
+// A box's key, but for its rows, which stand in the caller's table.
+#[derive(Clone, Copy)]
+pub struct KeyEnds<G> {
+    pub root: Seed,
+    pub last: G,
 }
 
 // One row of a key: a seed word, a bit for each side, and an element.

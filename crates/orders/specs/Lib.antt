@@ -1,3 +1,4 @@
 pub mod Text
 pub mod Grammar
 pub mod Lines
+pub mod Messages

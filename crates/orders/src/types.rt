@@ -1,4 +1,7 @@
 // What a line of orders says, and what can be wrong with it.
+ghost use Rattle.std.specs.Prelude.{Some};
+ghost use Rattle.orders.specs.Messages.{wrong_text, fault_text};
+
 use expander::Seed;
 use std::fmt;
 
@@ -122,6 +125,16 @@ pub struct Fault {
     pub word: usize,
 }
 
+impl fmt::Display for Fault {
+    ghost output = { λ f. Some (fault_text f) };
+
+    fn fmt<W: fmt::Write>(&self, f: &mut fmt::Formatter<W>) -> fmt::Result {
+        let word = self.word;
+        let what = self.what;
+        write!(f, "word {word}: {what}")
+    }
+}
+
 #[derive(Clone, Copy, Debug)]
 pub enum Wrong {
     UnknownOrder,
@@ -140,6 +153,8 @@ pub enum Wrong {
 }
 
 impl fmt::Display for Wrong {
+    ghost output = { λ w. Some (wrong_text w) };
+
     fn fmt<W: fmt::Write>(&self, f: &mut fmt::Formatter<W>) -> fmt::Result {
         match self {
             Wrong::UnknownOrder => f.write_str("not an order"),

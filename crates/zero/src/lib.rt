@@ -1,6 +1,7 @@
 // An expander of zeros, of kind 3. It hides nothing: it is for tests alone.
 #![tactic(auto)]
 
+ghost use Rattle.std.specs.Prelude.{refl};
 ghost use Rattle.zero.specs.Zeros.{zeros};
 ghost use Rattle.std.proofs.Common.{rules};
 
@@ -12,13 +13,13 @@ pub struct Zero;
 impl Expander for Zero {
     ghost meaning = { zeros };
 
+    ghost KIND = { 3 };
+
     const KIND: u8 = 3;
 
-    ghost wide = { Prim.search rules };
+    ghost kind_of_meaning = { refl };
 
-    fn kind_number() -> u8 {
-        Self::KIND
-    }
+    ghost wide = { Prim.search rules };
 
     fn branch(&self, _seed: Seed) -> Branches {
         let zero = Seed { bytes: [0; 16] };
