@@ -7,7 +7,7 @@ ghost use Rattle.standards.specs.Fips197.{cipher};
 ghost use Rattle.standards.specs.Kinds.{kind1, long_at, number};
 ghost use Rattle.standards.proofs.Lengths.{wide1};
 
-use expander::{Branches, Expander, Seed};
+use expander::{Branches, Expander, Seed, Side};
 pub use round_keys::RoundKeys;
 use standards::lowest_bit;
 
@@ -62,12 +62,16 @@ impl Expander for Aes128 {
         let keys = RoundKeys::new(&seed.bytes);
         let bits = keys.encrypt_number(4);
         Branches {
-            left: seed_number(&keys, 0),
-            left_value: seed_number(&keys, 1),
-            left_bit: lowest_bit(bits[0]),
-            right: seed_number(&keys, 2),
-            right_value: seed_number(&keys, 3),
-            right_bit: lowest_bit(bits[1]),
+            left: Side {
+                seed: seed_number(&keys, 0),
+                value: seed_number(&keys, 1),
+                bit: lowest_bit(bits[0]),
+            },
+            right: Side {
+                seed: seed_number(&keys, 2),
+                value: seed_number(&keys, 3),
+                bit: lowest_bit(bits[1]),
+            },
         }
     }
 

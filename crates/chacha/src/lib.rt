@@ -7,7 +7,7 @@ ghost use Rattle.standards.proofs.Lengths.{wide2};
 
 pub use blocks::block;
 use blocks::twice;
-use expander::{Branches, Expander, Seed};
+use expander::{Branches, Expander, Seed, Side};
 pub use rounds::{quarter_round, quarter_round_at};
 use standards::lowest_bit;
 
@@ -66,12 +66,16 @@ impl Expander for ChaCha20 {
         let seeds = seed_block(seed, 0);
         let bits = seed_block(seed, 1);
         Branches {
-            left: seed_at(&seeds, 0),
-            left_value: seed_at(&seeds, 16),
-            left_bit: lowest_bit(bits[0]),
-            right: seed_at(&seeds, 32),
-            right_value: seed_at(&seeds, 48),
-            right_bit: lowest_bit(bits[1]),
+            left: Side {
+                seed: seed_at(&seeds, 0),
+                value: seed_at(&seeds, 16),
+                bit: lowest_bit(bits[0]),
+            },
+            right: Side {
+                seed: seed_at(&seeds, 32),
+                value: seed_at(&seeds, 48),
+                bit: lowest_bit(bits[1]),
+            },
         }
     }
 

@@ -22,15 +22,19 @@ impl Seed {
     }
 }
 
-// What a seed branches to: on each side the next seed, the seed that values are drawn from, and a bit.
+// One side of a branch: the next seed, the seed that values are drawn from, and a bit.
+#[derive(Clone, Copy)]
+pub struct Side {
+    pub seed: Seed,
+    pub value: Seed,
+    pub bit: bool,
+}
+
+// What a seed branches to.
 #[derive(Clone, Copy)]
 pub struct Branches {
-    pub left: Seed,
-    pub left_value: Seed,
-    pub left_bit: bool,
-    pub right: Seed,
-    pub right_value: Seed,
-    pub right_bit: bool,
+    pub left: Side,
+    pub right: Side,
 }
 
 pub trait Expander {

@@ -5,7 +5,7 @@ ghost use Rattle.std.specs.Prelude.{refl};
 ghost use Rattle.zero.specs.Zeros.{zeros};
 ghost use Rattle.std.proofs.Common.{rules};
 
-use expander::{Branches, Expander, Seed};
+use expander::{Branches, Expander, Seed, Side};
 
 #[derive(Clone, Copy)]
 pub struct Zero;
@@ -23,13 +23,14 @@ impl Expander for Zero {
 
     fn branch(&self, _seed: Seed) -> Branches {
         let zero = Seed { bytes: [0; 16] };
+        let side = Side {
+            seed: zero,
+            value: zero,
+            bit: false,
+        };
         Branches {
-            left: zero,
-            left_value: zero,
-            left_bit: false,
-            right: zero,
-            right_value: zero,
-            right_bit: false,
+            left: side,
+            right: side,
         }
     }
 
