@@ -1,14 +1,25 @@
 // Orders about comparison keys.
+ghost use Rattle.std.specs.Prelude.{◌≡◌};
+
 use crate::kinds::{Task, with_expander};
-use crate::show::{print_rows, table};
+use crate::show::{print_common, table};
 use crate::stop::Stop;
 use comparison::{compare, deal_key};
 use expander::Expander;
 use group::{Flags, Group, Pair, Quad, Word};
-use key::{Row, Rows};
+use key::{Roots, Row, Rows};
 use orders::{DealOrder, Payload};
 use std::fmt;
 use tables::blank;
+
+fn roots_of(order: &DealOrder) -> Roots
+    ensures { (result.zero ≡ order.now.root0) × (result.one ≡ order.now.root1) }
+{
+    Roots {
+        zero: order.root0,
+        one: order.root1,
+    }
+}
 
 // What is done with a key's order, whatever its expander and its group.
 trait KeyTask: Copy {
@@ -40,12 +51,10 @@ impl KeyTask for Dealing {
             order.width,
             order.threshold,
             payload,
-            order.root0,
-            order.root1,
+            roots_of(order),
             rows,
         )?;
-        print_rows(rt, rows.as_slice())?;
-        println!(rt; "final {last}")?;
+        print_common(rt, rows.as_slice(), &last)?;
         Ok(())
     }
 }
@@ -73,8 +82,7 @@ impl KeyTask for Comparing {
             order.width,
             order.threshold,
             payload,
-            order.root0,
-            order.root1,
+            roots_of(order),
             rows,
             point,
         )?;

@@ -15,7 +15,7 @@ mod show;
 mod stop;
 
 pub use kinds::{Task, with_expander};
-pub use show::{print_rows, table};
+pub use show::{print_common, table};
 pub use stop::Stop;
 
 // What a session remembers: the last key and the last gate that were dealt.

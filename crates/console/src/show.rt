@@ -14,7 +14,7 @@ pub fn table<'a, G: Group>(memory: &'a mut [Row<G>], count: u8) -> Rows<'a, G>
     Rows::over(&mut memory[0..count])
 }
 
-pub fn print_rows<G: Group + fmt::Display>(rt: &HostRuntime, rows: &[Row<G>]) -> io::Result<()> {
+fn print_rows<G: Group + fmt::Display>(rt: &HostRuntime, rows: &[Row<G>]) -> io::Result<()> {
     for (i, row) in rows.iter().enumerate() {
         let number = i + 1;
         let word = Hex(&row.word.bytes);
@@ -24,4 +24,14 @@ pub fn print_rows<G: Group + fmt::Display>(rt: &HostRuntime, rows: &[Row<G>]) ->
         println!(rt; "row {number} word {word} left {left} right {right} element {element}")?;
     }
     Ok(())
+}
+
+// What both boxes hold of a comparison key: its rows and its final element.
+pub fn print_common<G: Group + fmt::Display>(
+    rt: &HostRuntime,
+    rows: &[Row<G>],
+    last: &G,
+) -> io::Result<()> {
+    print_rows(rt, rows)?;
+    println!(rt; "final {last}")
 }

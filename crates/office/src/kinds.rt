@@ -7,6 +7,7 @@ use expander::Expander;
 use orders::Kind;
 
 // To name an expander's number.
+#[derive(Clone, Copy)]
 struct Number;
 
 impl Task for Number {
