@@ -7,6 +7,7 @@ use lib.ListN.{length, take, drop, length-append, length-drop, take-append-drop}
 use lib.Seq.{take_at, drop_at, drop-drop, length-take-le}
 use borrow.Rule.Slice.PartMut.{put_mid}
 use Rattle.buffers.specs.Forms.{put_at, Put, Room}
+use Rattle.buffers.specs.declared.Writer.{Writer}
 
 pub put_at_is : (out : List ℕ) (at : ℕ) (bs : List ℕ) → put_at out at bs ≡ take at out ++ (bs ++ drop (at + length bs) out)
 unfolding put_at
@@ -45,81 +46,83 @@ put_at_join out at a b n e h =
     ∙ ap (λ t. take at out ++ t) (sym (append_assoc a b _))
     ∙ sym (put_at_is out at (a ++ b))
 
+pub put_long : {w w1 : Writer} {a : List ℕ} → Put w a w1 → length w1.out.now ≡ length w.out.now
+put_long {w} {w1} {a} p = ap length p.after ∙ length_put_at w.out.now w.at a p.fits
+
 -- one part after another
-pub then : {out o1 o2 a b : List ℕ} {at n m : ℕ} → Put out at a o1 n → Put o1 n b o2 m → Put out at (a ++ b) o2 m
-then {out} {o1} {o2} {a} {b} {at} {n} {m} p q =
-    let l : length o1 ≡ length out = ap length p.after ∙ length_put_at out at a p.fits in
+pub then : {w w1 w2 : Writer} {a b : List ℕ} → Put w a w1 → Put w1 b w2 → Put w (a ++ b) w2
+then {w} {w1} {w2} {a} {b} p q =
+    let l = put_long p in
     let s = length-append a b in
     let i = p.next in
     let j = q.next in
     let k = q.fits in
     record {
-      after = q.after ∙ ap (λ o. put_at o n b) p.after ∙ put_at_join out at a b n p.next p.fits;
+      after = q.after ∙ ap (λ o. put_at o w1.at b) p.after ∙ put_at_join w.out.now w.at a b w1.at p.next p.fits;
       next = omega arith;
       fits = omega arith;
+      same = q.same ∙ p.same;
     }
 
--- in a loop: what is still to be written, `rest`, from `at` on in `o`, to have all of `bs` written from `start` on in `out`
-pub record Owes (out : List ℕ) (start : ℕ) (bs o : List ℕ) (at : ℕ) (rest : List ℕ) : Type 0 where
-  pub same : put_at o at rest ≡ put_at out start bs
-  pub ends : at + length rest ≡ start + length bs
-  pub long : length o ≡ length out
-  pub fits : start + length bs ≤ length out
+-- in a loop: what is still to be written, `rest`, to have all of `bs` written from `start` on
+pub record Owes (start : Writer) (bs : List ℕ) (w : Writer) (rest : List ℕ) : Type 0 where
+  pub after : put_at w.out.now w.at rest ≡ put_at start.out.now start.at bs
+  pub ends : w.at + length rest ≡ start.at + length bs
+  pub long : length w.out.now ≡ length start.out.now
+  pub fits : start.at + length bs ≤ length start.out.now
+  pub same : w.out.ghost_name ≡ start.out.ghost_name
 
-pub owes_all : (out : List ℕ) (at : ℕ) (bs : List ℕ) → Room out at bs → Owes out at bs out at bs
-owes_all out at bs h = record { same = refl; ends = refl; long = refl; fits = h.fits }
+pub owes_all : (w : Writer) (bs : List ℕ) → Room w bs → Owes w bs w bs
+owes_all w bs h = record { after = refl; ends = refl; long = refl; fits = h.fits; same = refl }
 
-pub owes_less : {out o o1 bs a rest : List ℕ} {start at n : ℕ} → Owes out start bs o at (a ++ rest) → Put o at a o1 n → Owes out start bs o1 n rest
-owes_less {out} {o} {o1} {bs} {a} {rest} {start} {at} {n} w p =
+pub owes_less : {start w w1 : Writer} {bs a rest : List ℕ} → Owes start bs w (a ++ rest) → Put w a w1 → Owes start bs w1 rest
+owes_less {start} {w} {w1} {bs} {a} {rest} o p =
     let s = length-append a rest in
-    let l : length o1 ≡ length o = ap length p.after ∙ length_put_at o at a p.fits in
     let i = p.next in
-    let e = w.ends in
+    let e = o.ends in
     record {
-      same = ap (λ t. put_at t n rest) p.after ∙ put_at_join o at a rest n p.next p.fits ∙ w.same;
+      after = ap (λ t. put_at t w1.at rest) p.after ∙ put_at_join w.out.now w.at a rest w1.at p.next p.fits ∙ o.after;
       ends = omega arith;
-      long = l ∙ w.long;
-      fits = w.fits;
+      long = put_long p ∙ o.long;
+      fits = o.fits;
+      same = p.same ∙ o.same;
     }
 
-pub owes_none : {out o bs : List ℕ} {start at : ℕ} → Owes out start bs o at [] → Put out start bs o at
-owes_none {out} {o} {bs} {start} {at} w =
-    let e = w.ends in
-    record { after = sym (put_at_none o at) ∙ w.same; next = omega arith; fits = w.fits }
+pub owes_none : {start w : Writer} {bs : List ℕ} → Owes start bs w [] → Put start bs w
+owes_none {start} {w} {bs} o =
+    let e = o.ends in
+    record { after = sym (put_at_none w.out.now w.at) ∙ o.after; next = omega arith; fits = o.fits; same = o.same }
 
 -- the room for a part and for what follows it
-pub room_first : {o : List ℕ} {at : ℕ} (a rest : List ℕ) → Room o at (a ++ rest) → Room o at a
+pub room_first : {w : Writer} (a rest : List ℕ) → Room w (a ++ rest) → Room w a
 room_first a rest h = let f = h.fits in record { fits = omega (arith, length-append a rest) }
 
-pub room_next : {o o1 a : List ℕ} {at n : ℕ} (rest : List ℕ) → Put o at a o1 n → Room o at (a ++ rest) → Room o1 n rest
-room_next {o} {o1} {a} {at} {n} rest p h =
-    let l : length o1 ≡ length o = ap length p.after ∙ length_put_at o at a p.fits in
+pub room_next : {w w1 : Writer} {a : List ℕ} (rest : List ℕ) → Put w a w1 → Room w (a ++ rest) → Room w1 rest
+room_next {w} {w1} {a} rest p h =
+    let l = put_long p in
     let i = p.next in
     let f = h.fits in
     record { fits = omega (arith, length-append a rest) }
 
-pub room_owed : {out bs o : List ℕ} {start at : ℕ} (a rest : List ℕ) → Owes out start bs o at (a ++ rest) → Room o at a
-room_owed a rest w =
-    let e = w.ends in
-    let f = w.fits in
-    let l = w.long in
+pub room_owed : {start w : Writer} {bs : List ℕ} (a rest : List ℕ) → Owes start bs w (a ++ rest) → Room w a
+room_owed a rest o =
+    let e = o.ends in
+    let f = o.fits in
+    let l = o.long in
     record { fits = omega (arith, length-append a rest) }
 
-pub put_as : {out o1 a b : List ℕ} {at n : ℕ} → a ≡ b → Put out at a o1 n → Put out at b o1 n
-put_as {out} {o1} {a} {b} {at} {n} e p = record { after = p.after ∙ ap (put_at out at) e; next = p.next ∙ ap (λ x. at + length x) e; fits = rw (← e) p.fits }
+pub put_as : {w w1 : Writer} {a b : List ℕ} → a ≡ b → Put w a w1 → Put w b w1
+put_as {w} e p = rw (← e) p
 
-pub owes_as : {out bs o a b : List ℕ} {start at : ℕ} → a ≡ b → Owes out start bs o at a → Owes out start bs o at b
-owes_as {out} {bs} {o} {a} {b} {start} {at} e w = record { same = ap (put_at o at) (sym e) ∙ w.same; ends = ap (λ x. at + length x) (sym e) ∙ w.ends; long = w.long; fits = w.fits }
+pub owes_as : {start w : Writer} {bs a b : List ℕ} → a ≡ b → Owes start bs w a → Owes start bs w b
+owes_as e o = rw (← e) o
 
-pub room_as : {out a b : List ℕ} {at : ℕ} → a ≡ b → Room out at a → Room out at b
-room_as {out} {a} {b} {at} e p = record { fits = rw (← e) p.fits }
+pub room_as : {w : Writer} {a b : List ℕ} → a ≡ b → Room w a → Room w b
+room_as e p = rw (← e) p
 
 -- the room for a first part that is `b` in the code and `a` in the definition
-pub room_first_as : {o : List ℕ} {at : ℕ} (a rest b : List ℕ) → a ≡ b → Room o at (a ++ rest) → Room o at b
+pub room_first_as : {w : Writer} (a rest b : List ℕ) → a ≡ b → Room w (a ++ rest) → Room w b
 room_first_as a rest b e h = room_as e (room_first a rest h)
 
-pub put_none : (out : List ℕ) (at : ℕ) → at ≤ length out → Put out at [] out at
-put_none out at h = record { after = sym (put_at_none out at); next = sym (add-zero at); fits = rw add-zero h }
-
-pub put_long : {out o1 a : List ℕ} {at n : ℕ} → Put out at a o1 n → length o1 ≡ length out
-put_long {out} {o1} {a} {at} {n} p = ap length p.after ∙ length_put_at out at a p.fits
+pub put_none : (w : Writer) → w.at ≤ length w.out.now → Put w [] w
+put_none w h = record { after = sym (put_at_none w.out.now w.at); next = sym (add-zero w.at); fits = rw add-zero h; same = refl }

@@ -6,29 +6,46 @@ ghost use Rattle.stored.specs.Forms.{four_bytes};
 ghost use Rattle.layout.specs.Bytes.{number_at};
 ghost use Rattle.buffers.specs.Forms.{Put, Room};
 
-// Writes bytes from a place on, and gives the place after them.
-pub fn put(out: &mut [u8], at: usize, bytes: &[u8]) -> usize
-    requires { Room out.old at bytes.now }
-    ensures { Put out.old at bytes.now out.new result }
-{
-    let end = at + bytes.len();
-    out[at..end].copy_from_slice(bytes);
-    end
+// A buffer of the caller's, written from a place on: each part follows the one before.
+#[derive(Drop)]
+pub struct Writer<'a> {
+    pub out: &'a mut [u8],
+    pub at: usize,
 }
 
-pub fn put_byte(out: &mut [u8], at: usize, byte: u8) -> usize
-    requires { at + 1 ≤ length out.old }
-    ensures { Put out.old at (byte ∷ []) out.new result }
-{
-    put(out, at, &[byte])
-}
+impl<'a> Writer<'a> {
+    // Writes from the front of the buffer on.
+    pub fn over(out: &'a mut [u8]) -> Writer<'a>
+        ensures out { result.out.now ≡ out.old }
+        ensures same { result.out.ghost_name ≡ out.entry.ghost_name }
+        ensures front { result.at ≡ 0 }
+    {
+        Writer { out, at: 0 }
+    }
 
-// Writes a number as four bytes, the lowest first.
-pub fn put_number(out: &mut [u8], at: usize, number: u32) -> usize
-    requires { at + 4 ≤ length out.old }
-    ensures { Put out.old at (four_bytes number) out.new result }
-{
-    put(out, at, &number.to_le_bytes())
+    pub fn put(&mut self, bytes: &[u8])
+        requires { Room self.old bytes.now }
+        ensures { Put self.old bytes.now self.new }
+    {
+        let end = self.at + bytes.len();
+        self.out[self.at..end].copy_from_slice(bytes);
+        self.at = end;
+    }
+
+    pub fn put_byte(&mut self, byte: u8)
+        requires { Room self.old (byte ∷ []) }
+        ensures { Put self.old (byte ∷ []) self.new }
+    {
+        self.put(&[byte]);
+    }
+
+    // Writes a number as four bytes, the lowest first.
+    pub fn put_number(&mut self, number: u32)
+        requires { Room self.old (four_bytes number) }
+        ensures { Put self.old (four_bytes number) self.new }
+    {
+        self.put(&number.to_le_bytes());
+    }
 }
 
 // The number that four bytes write from a place on.
@@ -36,5 +53,5 @@ pub fn number_at(bytes: &[u8], at: usize) -> u32
     requires { at + 4 ≤ length bytes.now }
     ensures { result ≡ number_at bytes.now at }
 {
-    u32::from_le_bytes([bytes[at], bytes[at + 1], bytes[at + 2], bytes[at + 3]])
+    u32::from_le_bytes(*bytes[at..].first_chunk().unwrap())
 }

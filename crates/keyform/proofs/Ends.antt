@@ -1,7 +1,10 @@
--- The element at the end of bytes.
-use Rattle.std.proofs.Common.{◌≡◌, ℕ, ◌-◌, ◌≤◌, min, List, ◌++◌, length, take, drop, sym, ap, ◌∙◌, arith, length-append, take-append-drop, drop_at}
-use Rattle.keyform.specs.GateKeys.{LastIn, LastRead}
-use Rattle.keyform.proofs.Told.{same_front}
+-- The element at the end of bytes, and the two ends of a key.
+use Rattle.std.proofs.Common.{◌≡◌, ℕ, ◌-◌, ◌≤◌, min, List, ◌++◌, length, drop, sym, refl, ap, ◌∙◌, arith, length-append, drop_at}
+use Rattle.key.specs.declared.Row.{Row}
+use Rattle.key.specs.declared.KeyEnds.{KeyEnds}
+use Rattle.layout.specs.Keys.{seed_bytes, rows_bytes}
+use Rattle.keyform.specs.Reads.{LastIn, LastRead, EndsIn, EndsRead, RowsIn, RowsRead, KeyIn, KeyRead}
+use Rattle.keyform.proofs.Told.{same_front, same_back}
 
 module _ {M : Type 0} (form : M → List ℕ) (z : ℕ) (sized : (a : M) → length (form a) ≡ z) where
   pub last_long : (bytes : List ℕ) → LastIn form bytes → z ≤ length bytes
@@ -18,28 +21,50 @@ module _ {M : Type 0} (form : M → List ℕ) (z : ℕ) (sized : (a : M) → len
       sym (drop_at i.front (form i.last) (length bytes - size) at) ∙ ap (drop (length bytes - size)) i.same
 
   -- what stands before the last element
-  pub before_last : (bytes : List ℕ) (start : ℕ) (last : M) → LastRead form bytes start last → (front : List ℕ) (e : M)
-      → front ++ form e ≡ bytes
-      → front ≡ take start bytes
-  before_last bytes start last r front e h =
+  pub before_last : (bytes front other : List ℕ) (last e : M) → LastRead form bytes front last → other ++ form e ≡ bytes
+      → other ≡ front
+  before_last bytes front other last e r h =
       let s = sized last in
       let t = sized e in
-      let both : front ++ form e ≡ take start bytes ++ form last = h ∙ sym r.same in
+      let both : other ++ form e ≡ front ++ form last = h ∙ sym r.same in
       let k = ap length both in
-      let long : length front ≡ length (take start bytes) = omega
-      (arith, length-append front (form e), length-append (take start bytes) (form last)) in
-      same_front front (form e) (take start bytes) (form last) long both
+      let long : length other ≡ length front = omega
+      (arith, length-append other (form e), length-append front (form last)) in
+      same_front other (form e) front (form last) long both
 
-pub last_read : {M : Type 0} (form : M → List ℕ) (size : ℕ) (bytes : List ℕ) (e : M) → size ≤ length bytes
-    → form e ≡ drop (length bytes - size) bytes
-    → LastRead form bytes (length bytes - size) e
-last_read form size bytes e h d = record {
-  within = omega arith;
-  same = ap (λ t. take (length bytes - size) bytes ++ t) d ∙ take-append-drop (length bytes - size) bytes;
-}
+  -- the rows that stand between the ends
+  pub rows_between : (n : ℕ) (bytes between : List ℕ) (ends : KeyEnds M) → EndsRead form bytes between ends
+      → KeyIn form n bytes → RowsIn form n between
+  rows_between n bytes between ends r k =
+      let rest = same_back (seed_bytes k.root) (rows_bytes form k.rows ++ form k.last)
+      (seed_bytes ends.root) (between ++ form ends.last) refl (k.same ∙ sym r.same) in
+      record {
+        rows = k.rows;
+        count = k.count;
+        same = before_last (rows_bytes form k.rows ++ form k.last) between (rows_bytes form k.rows) ends.last k.last
+            (record { same = sym rest }) refl;
+      }
 
--- the last element behind what stands before it
-pub behind : {M : Type 0} (form : M → List ℕ) (bytes front : List ℕ) (start : ℕ) (last : M)
-    → LastRead form bytes start last → front ≡ take start bytes
-    → front ++ form last ≡ bytes
-behind form bytes front start last r e = ap (λ t. t ++ form last) e ∙ r.same
+module _ {M : Type 0} (form : M → List ℕ) where
+  pub ends_in : (n : ℕ) (bytes : List ℕ) → KeyIn form n bytes → EndsIn form bytes
+  ends_in n bytes k = record { root = k.root; between = rows_bytes form k.rows; last = k.last; same = k.same }
+
+  -- a key from its ends and its rows
+  pub key_in : (n : ℕ) (bytes between : List ℕ) (ends : KeyEnds M) → EndsRead form bytes between ends
+      → RowsIn form n between → KeyIn form n bytes
+  key_in n bytes between ends r t = record {
+    root = ends.root;
+    rows = t.rows;
+    last = ends.last;
+    count = t.count;
+    same = ap (λ x. seed_bytes ends.root ++ (x ++ form ends.last)) t.same ∙ r.same;
+  }
+
+  pub key_read : (n : ℕ) (bytes between : List ℕ) (ends : KeyEnds M) (rows : List (Row M)) → EndsRead form bytes between ends
+      → RowsRead form n between rows → KeyRead form n bytes ends.root rows ends.last
+  key_read n bytes between ends rows r t = record {
+    count = t.count;
+    same = ap (λ x. seed_bytes ends.root ++ (x ++ form ends.last)) t.same ∙ r.same;
+    whole = r.whole;
+    words = t.whole;
+  }

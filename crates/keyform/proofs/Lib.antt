@@ -5,7 +5,6 @@ pub mod Lengths
 pub mod Meanings
 pub mod Recast
 pub mod Steps
-pub mod Parts
 pub mod Told
 pub mod Ends
 pub mod Tails

@@ -1,14 +1,14 @@
 -- The key of an interval gate taken apart from its end.
-use Rattle.std.proofs.Common.{◌≡◌, ℕ, ◌+◌, List, ◌++◌, length, take, sym, ap, ◌∙◌, append_assoc, arith, length-append, length-take-le, take_at}
-use Rattle.expander.specs.declared.Seed.{Seed}
+use Rattle.std.proofs.Common.{◌≡◌, ℕ, ◌+◌, List, ◌++◌, length, sym, ap, ◌∙◌, append_assoc, arith, length-append}
 use Rattle.group.specs.declared.Flags.{Flags}
 use Rattle.key.specs.declared.Row.{Row}
 use Rattle.stored.specs.Forms.{four_bytes}
 use Rattle.layout.specs.Keys.{compared_bytes}
 use Rattle.keyform.specs.Forms.{flag_form}
-use Rattle.keyform.specs.Reads.{KeyIn, KeyRead}
+use Rattle.key.specs.declared.KeyEnds.{KeyEnds}
+use Rattle.keyform.specs.Reads.{LastIn, LastRead, KeyIn, KeyRead}
 use Rattle.keyform.specs.declared.gate_keys.Tail.{Tail}
-use Rattle.keyform.specs.GateKeys.{LastIn, LastRead, TailIn, TailRead, tail_bytes, IntervalIn, IntervalRead}
+use Rattle.keyform.specs.GateKeys.{TailIn, TailRead, tail_bytes, IntervalIn, IntervalRead}
 use Rattle.keyform.proofs.Forms.{flag_sized}
 use Rattle.keyform.proofs.Ends.{before_last}
 use Rattle.keyform.proofs.Told.{same_front}
@@ -41,35 +41,25 @@ module _ {M : Type 0} (form : M → List ℕ) where
   pub extra_in : (bytes : List ℕ) → ExtraIn form bytes → LastIn form bytes
   extra_in bytes i = record { front = i.front ++ form i.payload; last = i.extra; same = extra_last bytes i }
 
-  pub without_out : (bytes front : List ℕ) (start : ℕ) (out : Flags) → LastRead flag_form bytes start out
-      → front ≡ take start bytes
-      → TailIn form bytes → ExtraIn form front
-  without_out bytes front start out r e i = record {
+  pub without_out : (bytes elements : List ℕ) (out : Flags) → LastRead flag_form bytes elements out → TailIn form bytes
+      → ExtraIn form elements
+  without_out bytes elements out r i = record {
     front = i.front;
     payload = i.payload;
     extra = i.extra;
-    same = before_last flag_form 4 flag_sized bytes start out r (i.front ++ (form i.payload ++ form i.extra))
-        (record { 0 = i.out }) (out_last bytes i)
-        ∙ sym e;
+    same = before_last flag_form 4 flag_sized bytes elements (i.front ++ (form i.payload ++ form i.extra)) out
+        (record { 0 = i.out }) r (out_last bytes i);
   }
 
   -- the tail from its parts
-  pub tail_read : (bytes elements keyed : List ℕ) (start : ℕ) (payload extra : M) (out : Flags)
-      → elements ++ flag_form out ≡ bytes
-      → keyed ++ form extra ≡ elements → LastRead form keyed start payload
-      → TailRead form bytes (record { start = start; payload = payload; extra = extra; out = out.0 })
-  tail_read bytes elements keyed start payload extra out h1 h2 r =
-      let front = take start keyed in
-      let tail = tail_bytes form payload extra out.0 in
-      let long : length front ≡ start = length-take-le start keyed r.within in
-      let all : front ++ tail ≡ bytes = sym (append_assoc front (form payload) (form extra ++ flag_form out))
-      ∙ sym (append_assoc (front ++ form payload) (form extra) (flag_form out))
-      ∙ ap (λ t. (t ++ form extra) ++ flag_form out) r.same ∙ ap (λ t. t ++ flag_form out) h2 ∙ h1 in
-      let same : take start bytes ≡ front = ap (take start) (sym all) ∙ take_at front tail start long in
-      record {
-        within = omega (arith, long, ap length all, length-append front tail);
-        same = ap (λ t. t ++ tail) same ∙ all;
-      }
+  pub tail_read : (bytes elements keyed key : List ℕ) (payload extra : M) (out : Flags)
+      → LastRead flag_form bytes elements out → LastRead form elements keyed extra → LastRead form keyed key payload
+      → TailRead form bytes key (record { payload = payload; extra = extra; out = out.0 })
+  tail_read bytes elements keyed key payload extra out o x p = record {
+    same = sym (append_assoc key (form payload) (form extra ++ flag_form out))
+        ∙ sym (append_assoc (key ++ form payload) (form extra) (flag_form out))
+        ∙ ap (λ t. (t ++ form extra) ++ flag_form out) p.same ∙ ap (λ t. t ++ flag_form out) x.same ∙ o.same;
+  }
 
   pub tail_in : (n : ℕ) (bytes : List ℕ) → IntervalIn form n bytes → TailIn form bytes
   tail_in n bytes i = record {
@@ -81,43 +71,34 @@ module _ {M : Type 0} (form : M → List ℕ) where
   }
 
   -- a key, then a tail
-  pub interval_in : (n : ℕ) (bytes key : List ℕ) (t : Tail M) → TailRead form bytes t → key ≡ take t.start bytes
-      → KeyIn form n key → IntervalIn form n bytes
-  interval_in n bytes key t r e k = record {
+  pub interval_in : (n : ℕ) (bytes key : List ℕ) (t : Tail M) → TailRead form bytes key t → KeyIn form n key
+      → IntervalIn form n bytes
+  interval_in n bytes key t r k = record {
     key = record { root = k.root; rows = k.rows; last = k.last };
     payload = t.payload;
     extra = t.extra;
     out = t.out;
     count = k.count;
-    same = ap (λ x. x ++ tail_bytes form t.payload t.extra t.out) (k.same ∙ e) ∙ r.same;
+    same = ap (λ x. x ++ tail_bytes form t.payload t.extra t.out) k.same ∙ r.same;
   }
 
-  pub interval_read : (n : ℕ) (bytes key : List ℕ) (t : Tail M) (rows : List (Row M)) (root : Seed) (last : M)
-      → TailRead form bytes t
-      → key ≡ take t.start bytes → KeyRead form n key root rows last
-      → IntervalRead form n bytes rows (record {
-        root = root;
-        last = last;
-        payload = t.payload;
-        extra = t.extra;
-        out = t.out;
-      })
-  interval_read n bytes key t rows root last r e k = record {
+  pub interval_read : (n : ℕ) (bytes key : List ℕ) (t : Tail M) (rows : List (Row M)) (ends : KeyEnds M)
+      → TailRead form bytes key t → KeyRead form n key ends.root rows ends.last
+      → IntervalRead form n bytes rows (record { ends = ends; payload = t.payload; extra = t.extra; out = t.out })
+  interval_read n bytes key t rows ends r k = record {
     count = k.count;
-    same = ap (λ x. x ++ tail_bytes form t.payload t.extra t.out) (k.same ∙ e) ∙ r.same;
+    same = ap (λ x. x ++ tail_bytes form t.payload t.extra t.out) k.same ∙ r.same;
     whole = k.whole;
     words = k.words;
   }
 
 module _ {M : Type 0} (form : M → List ℕ) (z : ℕ) (sized : (a : M) → length (form a) ≡ z) where
-  pub without_extra : (bytes front : List ℕ) (start : ℕ) (extra : M) → LastRead form bytes start extra
-      → front ≡ take start bytes
-      → ExtraIn form bytes → LastIn form front
-  without_extra bytes front start extra r e i = record {
+  pub without_extra : (bytes keyed : List ℕ) (extra : M) → LastRead form bytes keyed extra → ExtraIn form bytes
+      → LastIn form keyed
+  without_extra bytes keyed extra r i = record {
     front = i.front;
     last = i.payload;
-    same = before_last form z sized bytes start extra r (i.front ++ form i.payload) i.extra
-        (extra_last form bytes i) ∙ sym e;
+    same = before_last form z sized bytes keyed (i.front ++ form i.payload) extra i.extra r (extra_last form bytes i);
   }
 
   tail_long : (payload extra : M) (out : ℕ) → length (tail_bytes form payload extra out) ≡ z + (z + 4)
@@ -131,20 +112,18 @@ module _ {M : Type 0} (form : M → List ℕ) (z : ℕ) (sized : (a : M) → len
       )
 
   -- the key that stands before the tail
-  pub before_tail : (n : ℕ) (bytes key : List ℕ) (t : Tail M) → TailRead form bytes t → key ≡ take t.start bytes
-      → IntervalIn form n bytes
+  pub before_tail : (n : ℕ) (bytes key : List ℕ) (t : Tail M) → TailRead form bytes key t → IntervalIn form n bytes
       → KeyIn form n key
-  before_tail n bytes key t r e i =
+  before_tail n bytes key t r i =
       let a = compared_bytes form i.key in
       let b = tail_bytes form i.payload i.extra i.out in
-      let c = take t.start bytes in
       let d = tail_bytes form t.payload t.extra t.out in
-      let both : a ++ b ≡ c ++ d = i.same ∙ sym r.same in
-      let long : length a ≡ length c = omega (
+      let both : a ++ b ≡ key ++ d = i.same ∙ sym r.same in
+      let long : length a ≡ length key = omega (
         arith,
         ap length both,
         length-append a b,
-        length-append c d,
+        length-append key d,
         tail_long i.payload i.extra i.out,
         tail_long t.payload t.extra t.out,
       ) in
@@ -153,5 +132,5 @@ module _ {M : Type 0} (form : M → List ℕ) (z : ℕ) (sized : (a : M) → len
         rows = i.key.rows;
         last = i.key.last;
         count = i.count;
-        same = same_front a b c d long both ∙ sym e;
+        same = same_front a b key d long both;
       }

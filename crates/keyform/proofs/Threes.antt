@@ -1,9 +1,10 @@
 -- The key of a product taken apart: three numbers.
-use Rattle.std.proofs.Common.{◌≡◌, ℕ, List, ◌++◌, take, sym, ap, ◌∙◌, append_assoc}
+use Rattle.std.proofs.Common.{◌≡◌, ℕ, List, ◌++◌, sym, ap, ◌∙◌, append_assoc}
 use Rattle.group.specs.declared.Flags.{Flags}
 use Rattle.stored.specs.Forms.{four_bytes}
 use Rattle.keyform.specs.Forms.{flag_form}
-use Rattle.keyform.specs.GateKeys.{LastIn, LastRead, ProductIn, three_numbers}
+use Rattle.keyform.specs.Reads.{LastIn, LastRead}
+use Rattle.keyform.specs.GateKeys.{ProductIn, three_numbers}
 use Rattle.keyform.proofs.Forms.{flag_sized}
 use Rattle.keyform.proofs.Ends.{before_last}
 
@@ -27,21 +28,19 @@ third_in bytes i = record {
 pub second_in : (bytes : List ℕ) → PairIn bytes → LastIn flag_form bytes
 second_in bytes i = record { front = four_bytes i.a; last = record { 0 = i.b }; same = i.same }
 
-pub without_third : (bytes front : List ℕ) (start : ℕ) (third : Flags) → LastRead flag_form bytes start third
-    → front ≡ take start bytes
-    → ProductIn bytes → PairIn front
-without_third bytes front start third r e i = record {
+pub without_third : (bytes two : List ℕ) (third : Flags) → LastRead flag_form bytes two third → ProductIn bytes
+    → PairIn two
+without_third bytes two third r i = record {
   a = i.a;
   b = i.b;
-  same = before_last flag_form 4 flag_sized bytes start third r (four_bytes i.a ++ four_bytes i.b)
-      (record { 0 = i.c }) (third_last bytes i) ∙ sym e;
+  same = before_last flag_form 4 flag_sized bytes two (four_bytes i.a ++ four_bytes i.b) third (record { 0 = i.c })
+      r (third_last bytes i);
 }
 
-pub without_second : (bytes front : List ℕ) (start : ℕ) (second : Flags) → LastRead flag_form bytes start second
-    → front ≡ take start bytes
-    → (i : PairIn bytes) → four_bytes i.a ≡ front
-without_second bytes front start second r e i =
-    before_last flag_form 4 flag_sized bytes start second r (four_bytes i.a) (record { 0 = i.b }) i.same ∙ sym e
+pub without_second : (bytes one : List ℕ) (second : Flags) → LastRead flag_form bytes one second → (i : PairIn bytes)
+    → four_bytes i.a ≡ one
+without_second bytes one second r i =
+    before_last flag_form 4 flag_sized bytes one (four_bytes i.a) second (record { 0 = i.b }) r i.same
 
 pub product_read : (bytes two one : List ℕ) (first second third : Flags) → two ++ flag_form third ≡ bytes
     → one ++ flag_form second ≡ two

@@ -1,13 +1,13 @@
 -- The key of a shift taken apart: two comparison keys, then four bytes.
-use Rattle.std.proofs.Common.{◌≡◌, ℕ, ◌+◌, ◌*◌, ◌≤◌, min, List, ◌++◌, length, take, drop, sym, ap, ◌∙◌, append_assoc, arith, length-append, take-append-drop, take_at, drop_at}
-use Rattle.expander.specs.declared.Seed.{Seed}
+use Rattle.std.proofs.Common.{◌≡◌, ℕ, ◌+◌, ◌*◌, ◌≤◌, min, List, ◌++◌, length, take, drop, sym, ap, ◌∙◌, append_assoc, arith, length-append, take_at, drop_at}
 use Rattle.group.specs.declared.Flags.{Flags}
 use Rattle.key.specs.declared.Row.{Row}
 use Rattle.stored.specs.Forms.{four_bytes}
 use Rattle.layout.specs.Keys.{compared_bytes, key_bytes}
 use Rattle.keyform.specs.Forms.{flag_form}
-use Rattle.keyform.specs.Reads.{KeyIn, KeyRead}
-use Rattle.keyform.specs.GateKeys.{LastIn, LastRead, TwoIn, ShiftIn, ShiftRead}
+use Rattle.key.specs.declared.KeyEnds.{KeyEnds}
+use Rattle.keyform.specs.Reads.{LastIn, LastRead, KeyIn, KeyRead}
+use Rattle.keyform.specs.GateKeys.{TwoIn, TwoRead, ShiftIn, ShiftRead}
 use Rattle.keyform.proofs.Lengths.{key_long}
 use Rattle.keyform.proofs.Forms.{flag_sized}
 use Rattle.keyform.proofs.Ends.{before_last}
@@ -25,65 +25,55 @@ module _ {M : Type 0} (form : M → List ℕ) where
     same = rest_last n m bytes i;
   }
 
-  pub without_rest : (n m : ℕ) (bytes front : List ℕ) (start : ℕ) (rest : Flags) → LastRead flag_form bytes start rest
-      → front ≡ take start bytes
-      → ShiftIn form n m bytes → TwoIn form n m front
-  without_rest n m bytes front start rest r e i = record {
+  pub without_rest : (n m : ℕ) (bytes keys : List ℕ) (rest : Flags) → LastRead flag_form bytes keys rest
+      → ShiftIn form n m bytes → TwoIn form n m keys
+  without_rest n m bytes keys rest r i = record {
     low = i.low;
     high = i.high;
     low_count = i.low_count;
     high_count = i.high_count;
-    same = before_last flag_form 4 flag_sized bytes start rest r
-        (compared_bytes form i.low ++ compared_bytes form i.high) (record { 0 = i.rest })
-        (rest_last n m bytes i)
-        ∙ sym e;
+    same = before_last flag_form 4 flag_sized bytes keys (compared_bytes form i.low ++ compared_bytes form i.high) rest
+        (record { 0 = i.rest }) r (rest_last n m bytes i);
   }
 
   -- two keys, then the rest
-  pub shift_in : (n m : ℕ) (bytes keys : List ℕ) (rest : Flags) → keys ++ flag_form rest ≡ bytes → TwoIn form n m keys
-      → ShiftIn form n m bytes
-  shift_in n m bytes keys rest h t = record {
+  pub shift_from : (n m : ℕ) (bytes keys : List ℕ) (rest : Flags) → LastRead flag_form bytes keys rest
+      → TwoIn form n m keys → ShiftIn form n m bytes
+  shift_from n m bytes keys rest r t = record {
     low = t.low;
     high = t.high;
     rest = rest.0;
     low_count = t.low_count;
     high_count = t.high_count;
     same = sym (append_assoc (compared_bytes form t.low) (compared_bytes form t.high) (flag_form rest))
-        ∙ ap (λ k. k ++ flag_form rest) t.same ∙ h;
+        ∙ ap (λ k. k ++ flag_form rest) t.same ∙ r.same;
   }
 
-  -- one key, then another
-  pub two_in : (n m size : ℕ) (bytes : List ℕ) → KeyIn form n (take size bytes) → KeyIn form m (drop size bytes)
-      → TwoIn form n m bytes
-  two_in n m size bytes l h = record {
-    low = record { root = l.root; rows = l.rows; last = l.last };
-    high = record { root = h.root; rows = h.rows; last = h.last };
-    low_count = l.count;
-    high_count = h.count;
-    same = ap (λ t. t ++ key_bytes form h.root h.rows h.last) l.same
-        ∙ ap (λ t. take size bytes ++ t) h.same ∙ take-append-drop size bytes;
-  }
+  pub two_from : (n m : ℕ) (bytes low high : List ℕ) → TwoRead form n m bytes low high → TwoIn form n m bytes
+  two_from n m bytes low high t =
+      let l = t.low_in in
+      let h = t.high_in in
+      record {
+        low = record { root = l.root; rows = l.rows; last = l.last };
+        high = record { root = h.root; rows = h.rows; last = h.last };
+        low_count = l.count;
+        high_count = h.count;
+        same = ap (λ k. k ++ key_bytes form h.root h.rows h.last) l.same ∙ ap (λ k. low ++ k) h.same ∙ t.same;
+      }
 
-  pub shift_read : (n m size : ℕ) (bytes keys : List ℕ) (low high : List (Row M)) (low-root high-root : Seed)
-      (low-last high-last : M) (rest : Flags)
-      → keys ++ flag_form rest ≡ bytes → KeyRead form n (take size keys) low-root low low-last
-      → KeyRead form m (drop size keys) high-root high high-last
-      → ShiftRead form n m bytes low high (record {
-        low_root = low-root;
-        low_last = low-last;
-        high_root = high-root;
-        high_last = high-last;
-        rest = rest.0;
-      })
-  shift_read n m size bytes keys low high low-root high-root low-last high-last rest h l k =
-      let a = key_bytes form low-root low low-last in
-      let b = key_bytes form high-root high high-last in
+  pub shift_read : (n m : ℕ) (bytes keys first second : List ℕ) (low high : List (Row M)) (low_ends high_ends : KeyEnds M)
+      (rest : Flags) → LastRead flag_form bytes keys rest → first ++ second ≡ keys
+      → KeyRead form n first low_ends.root low low_ends.last → KeyRead form m second high_ends.root high high_ends.last
+      → ShiftRead form n m bytes low high (record { low = low_ends; high = high_ends; rest = rest.0 })
+  shift_read n m bytes keys first second low high low_ends high_ends rest r e l k =
+      let a = key_bytes form low_ends.root low low_ends.last in
+      let b = key_bytes form high_ends.root high high_ends.last in
       record {
         low_count = l.count;
         high_count = k.count;
         same = sym (append_assoc a b (flag_form rest)) ∙ ap (λ t. (t ++ b) ++ flag_form rest) l.same
-            ∙ ap (λ t. (take size keys ++ t) ++ flag_form rest) k.same
-            ∙ ap (λ t. t ++ flag_form rest) (take-append-drop size keys) ∙ h;
+            ∙ ap (λ t. (first ++ t) ++ flag_form rest) k.same
+            ∙ ap (λ t. t ++ flag_form rest) e ∙ r.same;
         low_whole = l.whole;
         low_words = l.words;
         high_whole = k.whole;

@@ -1,24 +1,13 @@
 -- What the bytes of a gate's key hold, and what reading them gives.
-use Rattle.std.specs.Prelude.{◌≡◌, ℕ, ◌≤◌, List, ◌++◌, length, take, Some, None, Option}
+use Rattle.std.specs.Prelude.{◌≡◌, ℕ, List, ◌++◌, length, Some, None, Option}
 use Rattle.key.specs.declared.Row.{Row}
 use Rattle.stored.specs.Forms.{four_bytes}
 use Rattle.layout.specs.Keys.{Compared, compared_bytes}
 use Rattle.layout.specs.Wires.{interval_bytes}
-use Rattle.keyform.specs.Reads.{Whole, WholeRows}
+use Rattle.keyform.specs.Reads.{Whole, WholeRows, KeyIn}
 use Rattle.keyform.specs.declared.gate_keys.Tail.{Tail}
 use Rattle.keyform.specs.declared.gate_keys.IntervalParts.{IntervalParts}
 use Rattle.keyform.specs.declared.gate_keys.ShiftParts.{ShiftParts}
-
--- some element at the end of these bytes
-pub record LastIn {M : Type 0} (form : M → List ℕ) (bytes : List ℕ) : Type 0 where
-  pub front : List ℕ
-  pub last : M
-  pub same : front ++ form last ≡ bytes
-
--- the element at the end, and where it begins
-pub record LastRead {M : Type 0} (form : M → List ℕ) (bytes : List ℕ) (start : ℕ) (last : M) : Type 0 where
-  pub within : start ≤ length bytes
-  pub same : take start bytes ++ form last ≡ bytes
 
 -- what follows the comparison key of an interval gate: payload part, E part, mask part
 abbrev pub tail_bytes : {M : Type 0} → (M → List ℕ) → M → M → ℕ → List ℕ
@@ -31,19 +20,19 @@ pub record TailIn {M : Type 0} (form : M → List ℕ) (bytes : List ℕ) : Type
   pub out : ℕ
   pub same : front ++ tail_bytes form payload extra out ≡ bytes
 
-pub record TailRead {M : Type 0} (form : M → List ℕ) (bytes : List ℕ) (t : Tail M) : Type 0 where
-  pub within : t.start ≤ length bytes
-  pub same : take t.start bytes ++ tail_bytes form t.payload t.extra t.out ≡ bytes
+-- the tail, and what stands before it
+pub record TailRead {M : Type 0} (form : M → List ℕ) (bytes front : List ℕ) (t : Tail M) : Type 0 where
+  pub same : front ++ tail_bytes form t.payload t.extra t.out ≡ bytes
 
 -- a comparison key from its rows and the rest
 abbrev pub interval_key : {M : Type 0} → List (Row M) → IntervalParts M → Compared M
-interval_key rows p = record { root = p.root; rows = rows; last = p.last }
+interval_key rows p = record { root = p.ends.root; rows = rows; last = p.ends.last }
 
 abbrev pub low_key : {M : Type 0} → List (Row M) → ShiftParts M → Compared M
-low_key rows p = record { root = p.low_root; rows = rows; last = p.low_last }
+low_key rows p = record { root = p.low.root; rows = rows; last = p.low.last }
 
 abbrev pub high_key : {M : Type 0} → List (Row M) → ShiftParts M → Compared M
-high_key rows p = record { root = p.high_root; rows = rows; last = p.high_last }
+high_key rows p = record { root = p.high.root; rows = rows; last = p.high.last }
 
 -- some key of an interval gate, of n rows, with these bytes
 pub record IntervalIn {M : Type 0} (form : M → List ℕ) (n : ℕ) (bytes : List ℕ) : Type 0 where
@@ -58,7 +47,7 @@ pub record IntervalRead {M : Type 0} (form : M → List ℕ) (n : ℕ) (bytes : 
     (p : IntervalParts M) : Type 0 where
   pub count : length rows ≡ n
   pub same : interval_bytes form (interval_key rows p) p.payload p.extra p.out ≡ bytes
-  pub whole : Whole p.root
+  pub whole : Whole p.ends.root
   pub words : WholeRows rows
 
 -- the table's rows become those of the bytes, or no key has the bytes and the rows stay
@@ -79,6 +68,12 @@ pub record TwoIn {M : Type 0} (form : M → List ℕ) (n m : ℕ) (bytes : List 
   pub high_count : length high.rows ≡ m
   pub same : compared_bytes form low ++ compared_bytes form high ≡ bytes
 
+-- the bytes of one such key and of the other
+pub record TwoRead {M : Type 0} (form : M → List ℕ) (n m : ℕ) (bytes low high : List ℕ) : Type 0 where
+  pub same : low ++ high ≡ bytes
+  pub low_in : KeyIn form n low
+  pub high_in : KeyIn form m high
+
 -- some key of a shift, of n and m rows, with these bytes
 pub record ShiftIn {M : Type 0} (form : M → List ℕ) (n m : ℕ) (bytes : List ℕ) : Type 0 where
   pub low : Compared M
@@ -93,9 +88,9 @@ pub record ShiftRead {M : Type 0} (form : M → List ℕ) (n m : ℕ) (bytes : L
   pub low_count : length low ≡ n
   pub high_count : length high ≡ m
   pub same : two_keys_bytes form (low_key low p) (high_key high p) p.rest ≡ bytes
-  pub low_whole : Whole p.low_root
+  pub low_whole : Whole p.low.root
   pub low_words : WholeRows low
-  pub high_whole : Whole p.high_root
+  pub high_whole : Whole p.high.root
   pub high_words : WholeRows high
 
 abbrev pub ShiftOrKept : {M : Type 0} → (M → List ℕ) → List ℕ → (low high low' high' : List (Row M))

@@ -1,9 +1,9 @@
 -- What bytes hold, and what reading them gives.
-use Rattle.std.specs.Prelude.{◌≡◌, ℕ, List, [], ◌∷◌, length, Some, None, Option}
+use Rattle.std.specs.Prelude.{◌≡◌, ℕ, List, [], ◌∷◌, ◌++◌, length, Some, None, Option}
 use Rattle.expander.specs.declared.Seed.{Seed}
 use Rattle.key.specs.declared.Row.{Row}
-use Rattle.layout.specs.Keys.{row_bytes, rows_bytes, key_bytes}
-use Rattle.keyform.specs.declared.reading.KeyEnds.{KeyEnds}
+use Rattle.key.specs.declared.KeyEnds.{KeyEnds}
+use Rattle.layout.specs.Keys.{seed_bytes, row_bytes, rows_bytes, key_bytes}
 
 -- a seed of 16 bytes
 abbrev pub Whole : Seed → Type 0
@@ -18,6 +18,28 @@ WholeRows (r ∷ rs) = Whole r.word × WholeRows rs
 pub record RowIn {M : Type 0} (form : M → List ℕ) (bytes : List ℕ) : Type 0 where
   pub row : Row M
   pub same : row_bytes form row ≡ bytes
+
+-- some element at the end of these bytes
+pub record LastIn {M : Type 0} (form : M → List ℕ) (bytes : List ℕ) : Type 0 where
+  pub front : List ℕ
+  pub last : M
+  pub same : front ++ form last ≡ bytes
+
+-- the element at the end, and what stands before it
+pub record LastRead {M : Type 0} (form : M → List ℕ) (bytes front : List ℕ) (last : M) : Type 0 where
+  pub same : front ++ form last ≡ bytes
+
+-- some seed and element at the two ends of these bytes
+pub record EndsIn {M : Type 0} (form : M → List ℕ) (bytes : List ℕ) : Type 0 where
+  pub root : Seed
+  pub between : List ℕ
+  pub last : M
+  pub same : seed_bytes root ++ (between ++ form last) ≡ bytes
+
+-- the seed and the element at the two ends, and what stands between
+pub record EndsRead {M : Type 0} (form : M → List ℕ) (bytes between : List ℕ) (ends : KeyEnds M) : Type 0 where
+  pub same : seed_bytes ends.root ++ (between ++ form ends.last) ≡ bytes
+  pub whole : Whole ends.root
 
 -- some n rows with these bytes
 pub record RowsIn {M : Type 0} (form : M → List ℕ) (n : ℕ) (bytes : List ℕ) : Type 0 where

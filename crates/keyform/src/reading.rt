@@ -1,11 +1,13 @@
 // Reading a comparison key: every question is asked before the first row is written.
 ghost use Rattle.std.specs.Prelude.{◌≡◌, ◌+◌, ◌-◌, ◌^◌, ◌<◌, ◌≤◌, min, length, take, Decides, MatchOption};
-ghost use Rattle.layout.specs.Keys.{seed_bytes, bits};
-ghost use Rattle.keyform.specs.Reads.{Whole, RowIn, RowsIn, KeyIn, RowRead, RowsRead, ReadOrKept};
+ghost use Rattle.layout.specs.Keys.{seed_bytes};
+ghost use Rattle.keyform.specs.Reads.{Whole, RowIn, RowsIn, LastIn, LastRead, EndsIn, EndsRead, KeyIn, RowRead, RowsRead};
+ghost use Rattle.keyform.specs.Reads.{ReadOrKept};
 
+use crate::bits::Bits;
 use expander::Seed;
 use group::Group;
-use key::{Row, Rows};
+use key::{KeyEnds, Row, Rows};
 use stored::StoredGroup;
 
 // The seed that stands in front.
@@ -14,21 +16,8 @@ pub fn read_seed(bytes: &[u8]) -> Seed
     ensures same { seed_bytes result ≡ take 16 bytes.now }
     ensures whole { Whole result }
 {
-    let mut seed = [0; 16];
-    seed.copy_from_slice(&bytes[0..16]);
-    Seed { bytes: seed }
-}
-
-// A row's bits, left and right, or `None` for a byte that writes no bits.
-fn read_bits(byte: u8) -> Option<(bool, bool)>
-    ensures { MatchOption result (3 < byte) (λ b. bits b.0 b.1 ≡ byte) }
-{
-    match byte {
-        0 => Some((false, false)),
-        1 => Some((true, false)),
-        2 => Some((false, true)),
-        3 => Some((true, true)),
-        _ => None,
+    Seed {
+        bytes: *bytes.first_chunk().unwrap(),
     }
 }
 
@@ -37,21 +26,20 @@ fn read_row<G: StoredGroup>(bytes: &[u8]) -> Option<Row<G>>
     ensures { MatchOption result (RowIn G.StoredGroup.form bytes.now → ⊥)
         (λ row. RowRead G.StoredGroup.form bytes.now row) }
 {
-    if bytes.len() < 17 {
-        return None;
-    }
-    let (left, right) = read_bits(bytes[16])?;
-    let element = G::read(&bytes[17..])?;
+    let (word, rest) = bytes.split_at_checked(16)?;
+    let (byte, element) = rest.split_first()?;
+    let bits = Bits::try_from(*byte).ok()?;
+    let element = G::read(element)?;
     Some(Row {
-        word: read_seed(bytes),
-        left,
-        right,
+        word: read_seed(word),
+        left: bits.left,
+        right: bits.right,
         element,
     })
 }
 
 // How many bytes a row has.
-fn row_size<G: StoredGroup>() -> usize
+pub(crate) fn row_size<G: StoredGroup>() -> usize
     ensures { result ≡ min (17 + G.StoredGroup.size) (2 ^ 64 - 1) }
 {
     G::size_of().saturating_add(17)
@@ -61,11 +49,7 @@ fn row_size<G: StoredGroup>() -> usize
 fn row_fits<G: StoredGroup>(bytes: &[u8]) -> bool
     ensures { Decides result (RowIn G.StoredGroup.form bytes.now) }
 {
-    let row: Option<Row<G>> = read_row(bytes);
-    match row {
-        Some(_) => true,
-        None => false,
-    }
+    read_row::<G>(bytes).is_some()
 }
 
 // Do so many rows have these bytes?
@@ -107,30 +91,31 @@ fn fill<G: StoredGroup>(bytes: &[u8], rows: &mut Rows<G>)
     }
 }
 
-// A key, but for its rows, which stand in the caller's table.
-#[derive(Clone, Copy)]
-pub struct KeyEnds<G> {
-    pub root: Seed,
-    pub last: G,
+// The element at the end of these bytes behind what stands before it, or `None` where none ends them.
+pub(crate) fn read_last<G: StoredGroup>(bytes: &[u8]) -> Option<(&[u8], G)>
+    ensures { MatchOption result (LastIn G.StoredGroup.form bytes.now → ⊥)
+        (λ l. LastRead G.StoredGroup.form bytes.now l.0.now l.1) }
+{
+    let (front, last) = bytes.split_at(bytes.len().checked_sub(G::size_of())?);
+    Some((front, G::read(last)?))
+}
+
+// What these bytes have at their two ends, and the bytes between, or `None` where they have no ends.
+fn read_ends<G: StoredGroup>(bytes: &[u8]) -> Option<(&[u8], KeyEnds<G>)>
+    ensures { MatchOption result (EndsIn G.StoredGroup.form bytes.now → ⊥)
+        (λ e. EndsRead G.StoredGroup.form bytes.now e.0.now e.1) }
+{
+    let (root, rest) = bytes.split_at_checked(16)?;
+    let (between, last) = read_last(rest)?;
+    let root = read_seed(root);
+    Some((between, KeyEnds { root, last }))
 }
 
 // Does a key of so many rows have these bytes?
 pub fn key_fits<G: StoredGroup>(bytes: &[u8], count: usize) -> bool
     ensures { Decides result (KeyIn G.StoredGroup.form count bytes.now) }
 {
-    let size = G::size_of();
-    if bytes.len() < 16 {
-        return false;
-    }
-    if bytes.len() - 16 < size {
-        return false;
-    }
-    let end = bytes.len() - size;
-    let last: Option<G> = G::read(&bytes[end..]);
-    match last {
-        Some(_) => rows_fit::<G>(&bytes[16..end], count),
-        None => false,
-    }
+    read_ends::<G>(bytes).is_some_and(|(between, _)| rows_fit::<G>(between, count))
 }
 
 // Reads a key of as many rows as the table has: its rows into the table, the rest as the result. Where no key has these
@@ -140,14 +125,10 @@ pub fn read_key<G: StoredGroup>(bytes: &[u8], rows: &mut Rows<G>) -> Option<KeyE
         rows.old.rows.now rows.new.rows.now result }
     ensures same { rows.new.rows.ghost_name ≡ rows.old.rows.ghost_name }
 {
-    if !key_fits::<G>(bytes, rows.count()) {
+    let (between, ends) = read_ends(bytes)?;
+    if !rows_fit::<G>(between, rows.count()) {
         return None;
     }
-    let end = bytes.len() - G::size_of();
-    let last = G::read(&bytes[end..])?;
-    fill(&bytes[16..end], rows);
-    Some(KeyEnds {
-        root: read_seed(bytes),
-        last,
-    })
+    fill(between, rows);
+    Some(ends)
 }

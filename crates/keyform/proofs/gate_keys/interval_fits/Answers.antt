@@ -1,20 +1,18 @@
-use Rattle.keyform.proofs.Decided.{decided_no}
+use Rattle.std.proofs.Common.{Decides, rules}
+use Rattle.keyform.specs.Reads.{KeyIn}
+use Rattle.keyform.proofs.Decided.{decided_by}
 use Rattle.keyform.proofs.Tails.{tail_in, interval_in, before_tail}
 use Rattle.keyform.proofs.gate_keys.interval_fits.Goals as goal
 
-pub returns-in-Some : goal.returns-in-Some
-returns-in-Some g c =
-    let form = g.G.StoredGroup.form in
+pub returns : goal.returns
+returns g c =
+    let s = g.G.StoredGroup in
     let bytes = c.args.bytes.now in
-    let count = c.args.count in
-    let key = c.front_of.result.now in
-    let tail = c.in-Some.tail in
-    let read = c.in-Some.ensures in (
-      λ e. interval_in form count bytes key tail read c.front_of.ensures (c.key_fits.ensures.0 e),
-      λ i. c.key_fits.ensures.1 (before_tail form g.G.StoredGroup.size g.met.G.StoredGroup.sized count bytes
-          key tail read c.front_of.ensures i),
-    )
-
-pub returns-in-None : goal.returns-in-None
-returns-in-None g c = decided_no (λ i. c.in-None.ensures
-    (tail_in g.G.StoredGroup.form c.args.count c.args.bytes.now i))
+    let n = c.args.count in
+    decided_by c.read_tail.result c.is_some_and.result c.read_tail.ensures c.is_some_and.ensures
+    (λ none i. none (tail_in s.form n bytes i))
+    (λ t r p.
+    let fit : Decides c.is_some_and.result (KeyIn s.form n t.0.now) = search rules in (
+      λ h. interval_in s.form n bytes t.0.now t.1 r (fit.0 h),
+      λ i. fit.1 (before_tail s.form s.size g.met.G.StoredGroup.sized n bytes t.0.now t.1 r i),
+    ))

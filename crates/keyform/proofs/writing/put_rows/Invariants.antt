@@ -5,5 +5,5 @@ use Rattle.keyform.proofs.writing.put_rows.Given as goal
 
 abbrev pub invariant-loop-row : goal.invariant-loop-row
 invariant-loop-row g l =
-    Owes l.initial.out l.start (rows_bytes g.G.StoredGroup.form l.rows) l.out l.at
+    Owes l.initial.writer (rows_bytes g.G.StoredGroup.form l.rows) l.writer
     (rows_bytes g.G.StoredGroup.form (drop l.row-index l.rows))
