@@ -1,5 +1,5 @@
 // A block as four words, each of four bytes with the first one highest.
-ghost use Rattle.std.specs.Prelude.{◌≡◌, ◌/◌, ◌%◌};
+ghost use Rattle.std.specs.Prelude.{◌≡◌};
 ghost use Rattle.aes.specs.Blocks.{block_bytes};
 ghost use Rattle.standards.specs.Fips197.{add_round_key};
 
@@ -41,28 +41,4 @@ impl Block {
             self.3 ^ key.3,
         )
     }
-}
-
-pub fn first_byte(w: u32) -> u8
-    ensures { result ≡ w / 16777216 % 256 }
-{
-    (w >> 24) as u8
-}
-
-pub fn second_byte(w: u32) -> u8
-    ensures { result ≡ w / 65536 % 256 }
-{
-    (w / 65536 % 256) as u8
-}
-
-pub fn third_byte(w: u32) -> u8
-    ensures { result ≡ w / 256 % 256 }
-{
-    (w / 256 % 256) as u8
-}
-
-pub fn fourth_byte(w: u32) -> u8
-    ensures { result ≡ w % 256 }
-{
-    (w % 256) as u8
 }
