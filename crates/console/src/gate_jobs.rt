@@ -13,7 +13,7 @@ use hextext::Hex;
 use jobs::{Job, LocalJob, job_of};
 use key::{BoxNumber, Row};
 use keyform::{IntervalParts, ProductParts, ShiftParts};
-use masking::{Masked, Reading, Width, xor};
+use masking::{Masked, Reading, xor};
 use orders::GateOrder;
 use plain::{
     plain_flag, plain_piece, plain_product, plain_scale, plain_shift, plain_signed_shift,
@@ -56,11 +56,7 @@ fn deal_interval_gate<X: Expander, G: Shared + fmt::Display, T: IntervalGate<G>>
     Ok(())
 }
 
-fn print_shift_parts(
-    rt: &HostRuntime,
-    number: u8,
-    parts: &ShiftParts<Word>,
-) -> io::Result<()> {
+fn print_shift_parts(rt: &HostRuntime, number: u8, parts: &ShiftParts<Word>) -> io::Result<()> {
     let low = Hex(&parts.low.root.bytes);
     let high = Hex(&parts.high.root.bytes);
     let rest = parts.rest;
@@ -72,11 +68,10 @@ fn deal_shift_gate<X: Expander>(
     expander: &X,
     gate: &ShiftGate,
 ) -> Result<(), Stop> {
-    let width = gate.shift.width();
     let mut low_memory = [blank(); 32];
     let mut high_memory = [blank(); 32];
     let mut low = table(&mut low_memory, gate.shift.by());
-    let mut high = table(&mut high_memory, width.bits());
+    let mut high = table(&mut high_memory, gate.shift.width().bits());
     let zero = deal_shift(expander, BoxNumber::Zero, gate, &mut low, &mut high)?.parts();
     let one = deal_shift(expander, BoxNumber::One, gate, &mut low, &mut high)?.parts();
     print_common(rt, low.as_slice(), &zero.low.last)?;
@@ -106,7 +101,7 @@ fn local_mask(job: LocalJob) -> u32 {
     }
 }
 
-// Deals a gate at both boxes.
+// To deal a gate at both boxes.
 #[derive(Clone, Copy)]
 struct Dealing<'a> {
     rt: &'a HostRuntime,
@@ -149,7 +144,7 @@ pub fn deal(rt: &HostRuntime, order: &GateOrder) -> Result<(), Stop> {
     with_expander(order.kind, Dealing { rt, job })
 }
 
-// One held value or two, as text.
+// One held value or two.
 #[derive(Clone, Copy)]
 struct Held(u32, Option<u32>);
 
@@ -163,145 +158,129 @@ impl fmt::Display for Held {
     }
 }
 
-fn print_answers(
-    rt: &HostRuntime,
-    held: Held,
-    answers: GateAnswers,
-    plain: Reading,
-) -> Result<(), Stop> {
-    let zero = answers.share0.0;
-    let one = answers.share1.0;
-    let joined = answers.held.0;
-    let value = plain.0;
-    println!(rt; "held {held} box0 {zero} box1 {one} join {joined} plain {value}")?;
-    Ok(())
-}
-
-// Both boxes' answers of an interval gate.
-fn answer_interval<X: Expander, G: Shared, T: IntervalGate<G>>(
-    expander: &X,
-    gate: &T,
-    m: Masked,
-    memory0: &mut [Row<G>],
-    memory1: &mut [Row<G>],
-) -> Result<GateAnswers, Refusal> {
-    let bits = gate.deal().interval.width().bits();
-    let mut rows0 = table(memory0, bits);
-    let mut rows1 = table(memory1, bits);
-    interval_gate(
-        expander, expander, expander, gate, &mut rows0, &mut rows1, m,
-    )
-}
-
-// Both boxes' answers of a shift.
-fn answer_shift<X: Expander>(
-    expander: &X,
-    gate: &ShiftGate,
-    m: Masked,
-) -> Result<GateAnswers, Refusal> {
-    let by = gate.shift.by();
-    let bits = gate.shift.width().bits();
-    let mut low_memory0 = [blank(); 32];
-    let mut high_memory0 = [blank(); 32];
-    let mut low_memory1 = [blank(); 32];
-    let mut high_memory1 = [blank(); 32];
-    let mut low0 = table(&mut low_memory0, by);
-    let mut high0 = table(&mut high_memory0, bits);
-    let mut low1 = table(&mut low_memory1, by);
-    let mut high1 = table(&mut high_memory1, bits);
-    shift_gate(
-        expander, expander, expander, gate, &mut low0, &mut high0, &mut low1, &mut high1, m,
-    )
-}
-
-// What a shift means on a plain value.
-fn shifted(gate: &ShiftGate, v: Reading) -> Reading {
-    match gate.sign {
-        Sign::Unsigned => plain_shift(gate.shift, v),
-        Sign::Signed => plain_signed_shift(gate.shift, v),
-    }
-}
-
-// Is a held value below N?
-fn ask_range(width: Width, m: u32) -> Result<(), Refusal> {
-    Refusal::ask(width.has(m), Refusal::KeyRange)
-}
-
-fn print_local(rt: &HostRuntime, held: Held, joined: u32, plain: Reading) -> Result<(), Stop> {
-    let value = plain.0;
-    println!(rt; "held {held} join {joined} plain {value}")?;
-    Ok(())
-}
-
-// Works a gate at held values, at both boxes.
+// To work a gate at held values, at both boxes.
 #[derive(Clone, Copy)]
 struct Holding<'a> {
     rt: &'a HostRuntime,
     job: Job,
-    m: u32,
-    k: Option<u32>,
+    held: Held,
+}
+
+impl Holding<'_> {
+    fn print_answers(self, answers: GateAnswers, plain: Reading) -> Result<(), Stop> {
+        let held = self.held;
+        let zero = answers.share0.0;
+        let one = answers.share1.0;
+        let joined = answers.held.0;
+        let value = plain.0;
+        println!(self.rt; "held {held} box0 {zero} box1 {one} join {joined} plain {value}")?;
+        Ok(())
+    }
+
+    fn print_local(self, joined: u32, plain: Reading) -> Result<(), Stop> {
+        let held = self.held;
+        let value = plain.0;
+        println!(self.rt; "held {held} join {joined} plain {value}")?;
+        Ok(())
+    }
+
+    // A gate on one interval, by its meaning on a plain value.
+    fn interval<
+        X: Expander,
+        G: Shared,
+        T: IntervalGate<G>,
+        F: FnOnce(Reading) -> Reading,
+    >(
+        self,
+        expander: &X,
+        gate: &T,
+        meaning: F,
+        memory0: &mut [Row<G>],
+        memory1: &mut [Row<G>],
+    ) -> Result<(), Stop>
+        requires { F.IsAlwaysCallable meaning }
+    {
+        let m = Masked(self.held.0);
+        let deal = gate.deal();
+        let width = deal.interval.width();
+        let mut rows0 = table(memory0, width.bits());
+        let mut rows1 = table(memory1, width.bits());
+        let answers = interval_gate(
+            expander, expander, expander, gate, &mut rows0, &mut rows1, m,
+        )?;
+        self.print_answers(answers, meaning(m.unmask(width, deal.mask)))
+    }
+
+    fn shift<X: Expander>(self, expander: &X, gate: &ShiftGate) -> Result<(), Stop> {
+        let m = Masked(self.held.0);
+        let width = gate.shift.width();
+        let by = gate.shift.by();
+        let mut low_memory0 = [blank(); 32];
+        let mut high_memory0 = [blank(); 32];
+        let mut low_memory1 = [blank(); 32];
+        let mut high_memory1 = [blank(); 32];
+        let mut low0 = table(&mut low_memory0, by);
+        let mut high0 = table(&mut high_memory0, width.bits());
+        let mut low1 = table(&mut low_memory1, by);
+        let mut high1 = table(&mut high_memory1, width.bits());
+        let answers = shift_gate(
+            expander, expander, expander, gate, &mut low0, &mut high0, &mut low1, &mut high1, m,
+        )?;
+        let v = m.unmask(width, gate.mask);
+        let plain = match gate.sign {
+            Sign::Unsigned => plain_shift(gate.shift, v),
+            Sign::Signed => plain_signed_shift(gate.shift, v),
+        };
+        self.print_answers(answers, plain)
+    }
+
+    fn product(self, gate: &ProductGate, k: u32) -> Result<(), Stop> {
+        let m = Masked(self.held.0);
+        let k = Masked(k);
+        let answers = product_gate(gate, m, k)?;
+        let v = m.unmask(gate.width, gate.mask_a);
+        let w = k.unmask(gate.width, gate.mask_b);
+        self.print_answers(answers, plain_product(gate.width, v, w))
+    }
 }
 
 impl Task for Holding<'_> {
     type Done = Result<(), Stop>;
 
     fn run<X: Expander>(self, expander: &X) -> Result<(), Stop> {
-        let rt = self.rt;
-        let m = self.m;
-        let held = Masked(m);
-        match (self.job, self.k) {
-            (Job::Piece(gate), None) => {
-                let v = held.unmask(gate.interval.width(), gate.mask);
-                let plain = plain_piece(gate.interval, gate.coefficients, v);
-                let answers = answer_interval(
-                    expander,
-                    &gate,
-                    held,
-                    &mut [blank(); 32],
-                    &mut [blank(); 32],
-                )?;
-                print_answers(rt, Held(m, None), answers, plain)
-            }
-            (Job::Flag(gate), None) => {
-                let v = held.unmask(gate.interval.width(), gate.mask);
-                let plain = plain_flag(gate.interval, gate.pattern, v);
-                let answers = answer_interval(
-                    expander,
-                    &gate,
-                    held,
-                    &mut [blank(); 32],
-                    &mut [blank(); 32],
-                )?;
-                print_answers(rt, Held(m, None), answers, plain)
-            }
-            (Job::Shift(gate), None) => {
-                let v = held.unmask(gate.shift.width(), gate.mask);
-                let answers = answer_shift(expander, &gate, held)?;
-                print_answers(rt, Held(m, None), answers, shifted(&gate, v))
-            }
+        let Held(m, k) = self.held;
+        match (self.job, k) {
+            (Job::Piece(gate), None) => self.interval(
+                expander,
+                &gate,
+                move |v| plain_piece(gate.interval, gate.coefficients, v),
+                &mut [blank(); 32],
+                &mut [blank(); 32],
+            ),
+            (Job::Flag(gate), None) => self.interval(
+                expander,
+                &gate,
+                move |v| plain_flag(gate.interval, gate.pattern, v),
+                &mut [blank(); 32],
+                &mut [blank(); 32],
+            ),
+            (Job::Shift(gate), None) => self.shift(expander, &gate),
             (Job::Local(LocalJob::Scale { width, mask, c, d }), None) => {
-                ask_range(width, m)?;
-                let v = held.unmask(width, mask);
-                let joined = width.scale(c, d, m);
-                print_local(rt, Held(m, None), joined, plain_scale(width, c, d, v))
+                Refusal::ask(width.has(m), Refusal::KeyRange)?;
+                let v = Masked(m).unmask(width, mask);
+                self.print_local(width.scale(c, d, m), plain_scale(width, c, d, v))
             }
-            (Job::Product(gate), Some(k)) => {
-                let v = held.unmask(gate.width, gate.mask_a);
-                let w = Masked(k).unmask(gate.width, gate.mask_b);
-                let answers = product_gate(&gate, held, Masked(k))?;
-                print_answers(rt, Held(m, Some(k)), answers, plain_product(gate.width, v, w))
-            }
+            (Job::Product(gate), Some(k)) => self.product(&gate, k),
             (Job::Local(LocalJob::Sum { width, mask, mask2 }), Some(k)) => {
-                ask_range(width, m)?;
-                ask_range(width, k)?;
-                let v = held.unmask(width, mask);
+                Refusal::ask(width.has(m) && width.has(k), Refusal::KeyRange)?;
+                let v = Masked(m).unmask(width, mask);
                 let w = Masked(k).unmask(width, mask2);
-                print_local(rt, Held(m, Some(k)), width.sum(m, k), plain_sum(width, v, w))
+                self.print_local(width.sum(m, k), plain_sum(width, v, w))
             }
             (Job::Local(LocalJob::Xor { mask, mask2, .. }), Some(k)) => {
                 let v = Reading(xor(m, mask));
                 let w = Reading(xor(k, mask2));
-                print_local(rt, Held(m, Some(k)), xor(m, k), plain_xor(v, w))
+                self.print_local(xor(m, k), plain_xor(v, w))
             }
             (_, None) => Err(Stop::Cannot("the gate reads two values")),
             (_, Some(_)) => Err(Stop::Cannot("the gate reads one value")),
@@ -312,5 +291,6 @@ impl Task for Holding<'_> {
 // Works a gate at held values, at both boxes, and prints both shares, the join and the plain meaning beside it.
 pub fn hold(rt: &HostRuntime, order: &GateOrder, m: u32, k: Option<u32>) -> Result<(), Stop> {
     let job = job_of(order)?;
-    with_expander(order.kind, Holding { rt, job, m, k })
+    let held = Held(m, k);
+    with_expander(order.kind, Holding { rt, job, held })
 }
