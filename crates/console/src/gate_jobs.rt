@@ -1,12 +1,14 @@
 // Orders about gates: dealing one, and holding values at it.
+ghost use Rattle.std.specs.Prelude.{◌≡◌, min, length};
+
 use crate::kinds::{Task, with_expander};
 use crate::show::{print_common, table};
 use crate::stop::Stop;
 use expander::Expander;
 use gatekeys::{ProductGate, ShiftGate, Sign};
 use gates::{
-    GateAnswers, IntervalGate, Shared, deal_interval, deal_product, deal_shift, interval_gate,
-    product_gate, shift_gate,
+    GateAnswers, IntervalGate, Shared, ShiftRows, deal_interval, deal_product, deal_shift,
+    interval_gate, product_gate, shift_gate,
 };
 use group::{Group, Word, low_half};
 use hextext::Hex;
@@ -63,6 +65,21 @@ fn print_shift_parts(rt: &HostRuntime, number: u8, parts: &ShiftParts<Word>) -> 
     println!(rt; "box {number} low {low} high {high} rest {rest}")
 }
 
+// The tables of one box's key of a shift.
+fn shift_tables<'a>(
+    gate: &ShiftGate,
+    low: &'a mut [Row<Word>],
+    high: &'a mut [Row<Word>],
+) -> ShiftRows<'a>
+    ensures low { length result.low.rows.now ≡ min gate.now.shift.by (length low.old) }
+    ensures high { length result.high.rows.now ≡ min gate.now.shift.width.bits (length high.old) }
+{
+    ShiftRows {
+        low: table(low, gate.shift.by()),
+        high: table(high, gate.shift.width().bits()),
+    }
+}
+
 fn deal_shift_gate<X: Expander>(
     rt: &HostRuntime,
     expander: &X,
@@ -70,12 +87,11 @@ fn deal_shift_gate<X: Expander>(
 ) -> Result<(), Stop> {
     let mut low_memory = [blank(); 32];
     let mut high_memory = [blank(); 32];
-    let mut low = table(&mut low_memory, gate.shift.by());
-    let mut high = table(&mut high_memory, gate.shift.width().bits());
-    let zero = deal_shift(expander, BoxNumber::Zero, gate, &mut low, &mut high)?.parts();
-    let one = deal_shift(expander, BoxNumber::One, gate, &mut low, &mut high)?.parts();
-    print_common(rt, low.as_slice(), &zero.low.last)?;
-    print_common(rt, high.as_slice(), &zero.high.last)?;
+    let mut rows = shift_tables(gate, &mut low_memory, &mut high_memory);
+    let zero = deal_shift(expander, BoxNumber::Zero, gate, &mut rows)?.parts();
+    let one = deal_shift(expander, BoxNumber::One, gate, &mut rows)?.parts();
+    print_common(rt, rows.low.as_slice(), &zero.low.last)?;
+    print_common(rt, rows.high.as_slice(), &zero.high.last)?;
     print_shift_parts(rt, 0, &zero)?;
     print_shift_parts(rt, 1, &one)?;
     Ok(())
@@ -185,12 +201,7 @@ impl Holding<'_> {
     }
 
     // A gate on one interval, by its meaning on a plain value.
-    fn interval<
-        X: Expander,
-        G: Shared,
-        T: IntervalGate<G>,
-        F: FnOnce(Reading) -> Reading,
-    >(
+    fn interval<X: Expander, G: Shared, T: IntervalGate<G>, F: FnOnce(Reading) -> Reading>(
         self,
         expander: &X,
         gate: &T,
@@ -213,20 +224,16 @@ impl Holding<'_> {
 
     fn shift<X: Expander>(self, expander: &X, gate: &ShiftGate) -> Result<(), Stop> {
         let m = Masked(self.held.0);
-        let width = gate.shift.width();
-        let by = gate.shift.by();
-        let mut low_memory0 = [blank(); 32];
-        let mut high_memory0 = [blank(); 32];
-        let mut low_memory1 = [blank(); 32];
-        let mut high_memory1 = [blank(); 32];
-        let mut low0 = table(&mut low_memory0, by);
-        let mut high0 = table(&mut high_memory0, width.bits());
-        let mut low1 = table(&mut low_memory1, by);
-        let mut high1 = table(&mut high_memory1, width.bits());
+        let mut low0 = [blank(); 32];
+        let mut high0 = [blank(); 32];
+        let mut low1 = [blank(); 32];
+        let mut high1 = [blank(); 32];
+        let mut rows0 = shift_tables(gate, &mut low0, &mut high0);
+        let mut rows1 = shift_tables(gate, &mut low1, &mut high1);
         let answers = shift_gate(
-            expander, expander, expander, gate, &mut low0, &mut high0, &mut low1, &mut high1, m,
+            expander, expander, expander, gate, &mut rows0, &mut rows1, m,
         )?;
-        let v = m.unmask(width, gate.mask);
+        let v = m.unmask(gate.shift.width(), gate.mask);
         let plain = match gate.sign {
             Sign::Unsigned => plain_shift(gate.shift, v),
             Sign::Signed => plain_signed_shift(gate.shift, v),
