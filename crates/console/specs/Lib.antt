@@ -1,1 +1,3 @@
 pub mod Remembered
+pub mod Kinds
+pub mod Said

@@ -1,144 +1,149 @@
 // Orders about comparison keys.
-use crate::show::{Element, Numbers, print_refusal, print_rows, row_count};
-use aes::Aes128;
-use chacha::ChaCha20;
-use comparison::{Answers, compare, deal_key};
+ghost use Rattle.std.specs.Prelude.{◌≡◌};
+
+use crate::kinds::{Task, with_expander};
+use crate::show::{print_common, table};
+use crate::stop::Stop;
+use comparison::{compare, deal_key};
 use expander::Expander;
-use group::{Flags, Group, Pair, Word};
-use key::{Row, Rows};
-use orders::{DealOrder, Kind, Payload};
-use std::io;
+use group::{Flags, Group, Pair, Quad, Word};
+use key::{Roots, Row, Rows};
+use orders::{DealOrder, Payload};
+use std::fmt;
 use tables::blank;
-use zero::Zero;
 
-// What to do with a key.
-#[derive(Clone, Copy)]
-pub enum Act {
-    Deal,
-    Compare(u32),
-}
-
-// Deals a key and prints its rows and its final element; whether it was dealt.
-fn deal_and_print<X: Expander, G: Group + Element>(
-    rt: &HostRuntime,
-    expander: &X,
-    order: &DealOrder,
-    payload: G,
-    memory: &mut [Row<G>],
-) -> io::Result<bool> {
-    let mut rows = Rows::over(memory);
-    match deal_key(
-        expander,
-        order.width,
-        order.threshold,
-        payload,
-        order.root0,
-        order.root1,
-        &mut rows,
-    ) {
-        Err(refusal) => print_refusal(rt, refusal),
-        Ok(last) => {
-            print_rows(rt, rows.as_slice())?;
-            let last = Numbers(last);
-            println!(rt; "final {last}")?;
-            Ok(true)
-        }
+fn roots_of(order: &DealOrder) -> Roots
+    ensures { (result.zero ≡ order.now.root0) × (result.one ≡ order.now.root1) }
+{
+    Roots {
+        zero: order.root0,
+        one: order.root1,
     }
 }
 
-fn print_answers<G: Group + Element>(
-    rt: &HostRuntime,
-    point: u32,
-    answers: Answers<G>,
-) -> io::Result<bool> {
-    let zero = Numbers(answers.answer0);
-    let one = Numbers(answers.answer1);
-    let joined = Numbers(answers.joined);
-    println!(rt; "point {point} box0 {zero} box1 {one} join {joined}")?;
-    Ok(true)
+// What is done with a key's order, whatever its expander and its group.
+trait KeyTask: Copy {
+    fn run<X: Expander, G: Group + fmt::Display>(
+        self,
+        rt: &HostRuntime,
+        expander: &X,
+        order: &DealOrder,
+        payload: G,
+        rows: &mut Rows<G>,
+    ) -> Result<(), Stop>;
+}
+
+// Deals the key, and prints its rows and its final element.
+#[derive(Clone, Copy)]
+struct Dealing;
+
+impl KeyTask for Dealing {
+    fn run<X: Expander, G: Group + fmt::Display>(
+        self,
+        rt: &HostRuntime,
+        expander: &X,
+        order: &DealOrder,
+        payload: G,
+        rows: &mut Rows<G>,
+    ) -> Result<(), Stop> {
+        let last = deal_key(
+            expander,
+            order.width,
+            order.threshold,
+            payload,
+            roots_of(order),
+            rows,
+        )?;
+        print_common(rt, rows.as_slice(), &last)?;
+        Ok(())
+    }
 }
 
 // Compares a point with the key's threshold, through both boxes, and prints the answers.
-fn compare_and_print<X: Expander, G: Group + Element>(
-    rt: &HostRuntime,
-    expander: &X,
-    order: &DealOrder,
-    payload: G,
+#[derive(Clone, Copy)]
+struct Comparing {
     point: u32,
-    memory: &mut [Row<G>],
-) -> io::Result<bool> {
-    let mut rows = Rows::over(memory);
-    match compare(
-        expander,
-        expander,
-        expander,
-        order.width,
-        order.threshold,
-        payload,
-        order.root0,
-        order.root1,
-        &mut rows,
-        point,
-    ) {
-        Err(refusal) => print_refusal(rt, refusal),
-        Ok(answers) => print_answers(rt, point, answers),
+}
+
+impl KeyTask for Comparing {
+    fn run<X: Expander, G: Group + fmt::Display>(
+        self,
+        rt: &HostRuntime,
+        expander: &X,
+        order: &DealOrder,
+        payload: G,
+        rows: &mut Rows<G>,
+    ) -> Result<(), Stop> {
+        let point = self.point;
+        let answers = compare(
+            expander,
+            expander,
+            expander,
+            order.width,
+            order.threshold,
+            payload,
+            roots_of(order),
+            rows,
+            point,
+        )?;
+        let zero = answers.answer0;
+        let one = answers.answer1;
+        let joined = answers.joined;
+        println!(rt; "point {point} box0 {zero} box1 {one} join {joined}")?;
+        Ok(())
     }
 }
 
-fn act_over<X: Expander, G: Group + Element>(
-    rt: &HostRuntime,
-    expander: &X,
-    order: &DealOrder,
-    payload: G,
-    act: Act,
-    memory: &mut [Row<G>],
-) -> io::Result<bool> {
-    let count = row_count(order.width, memory.len());
-    let rows = &mut memory[0..count];
-    match act {
-        Act::Deal => deal_and_print(rt, expander, order, payload, rows),
-        Act::Compare(point) => compare_and_print(rt, expander, order, payload, point, rows),
+// A task on a key that waits for the key's expander.
+#[derive(Clone, Copy)]
+struct OnKey<'a, T> {
+    rt: &'a HostRuntime,
+    order: &'a DealOrder,
+    task: T,
+}
+
+impl<T: KeyTask> OnKey<'_, T> {
+    // Stays: the memory is the caller's, who knows the group: the size of `[Row<G>; 32]` has no bound here.
+    fn with<X: Expander, G: Group + fmt::Display>(
+        self,
+        expander: &X,
+        payload: G,
+        memory: &mut [Row<G>],
+    ) -> Result<(), Stop> {
+        let mut rows = table(memory, self.order.width);
+        self.task
+            .run(self.rt, expander, self.order, payload, &mut rows)
     }
 }
 
-fn act_in<G: Group + Element>(
-    rt: &HostRuntime,
-    order: &DealOrder,
-    payload: G,
-    act: Act,
-    memory: &mut [Row<G>],
-) -> io::Result<bool> {
-    match order.kind {
-        Kind::Aes => act_over(rt, &Aes128, order, payload, act, memory),
-        Kind::ChaCha => act_over(rt, &ChaCha20, order, payload, act, memory),
-        Kind::Zero => act_over(rt, &Zero, order, payload, act, memory),
-    }
-}
+impl<T: KeyTask> Task for OnKey<'_, T> {
+    type Done = Result<(), Stop>;
 
-pub fn act_on(rt: &HostRuntime, order: &DealOrder, act: Act) -> io::Result<bool> {
-    match order.payload {
-        Payload::Words(a) => act_in(rt, order, Word(a), act, &mut [blank(); 32]),
-        Payload::Flags(a) => act_in(rt, order, Flags(a), act, &mut [blank(); 32]),
-        Payload::Pair(a, b) => act_in(
-            rt,
-            order,
-            Pair {
-                left: Word(a),
-                right: Flags(b),
-            },
-            act,
-            &mut [blank(); 32],
-        ),
-        Payload::Quad(a, b, c, d) => {
-            let left = Pair {
-                left: Word(a),
-                right: Word(b),
-            };
-            let right = Pair {
-                left: Word(c),
-                right: Word(d),
-            };
-            act_in(rt, order, Pair { left, right }, act, &mut [blank(); 32])
+    fn run<X: Expander>(self, expander: &X) -> Result<(), Stop> {
+        match self.order.payload {
+            Payload::Words(a) => self.with(expander, Word(a), &mut [blank(); 32]),
+            Payload::Flags(a) => self.with(expander, Flags(a), &mut [blank(); 32]),
+            Payload::Pair(a, b) => {
+                let left = Word(a);
+                let right = Flags(b);
+                self.with(expander, Pair { left, right }, &mut [blank(); 32])
+            }
+            Payload::Quad(a, b, c, d) => {
+                let quad = Quad::from([a, b, c, d]);
+                self.with(expander, quad, &mut [blank(); 32])
+            }
         }
     }
+}
+
+// Deals a key and prints what is dealt.
+pub fn deal(rt: &HostRuntime, order: &DealOrder) -> Result<(), Stop> {
+    let task = Dealing;
+    with_expander(order.kind, OnKey { rt, order, task })
+}
+
+// Prints both boxes' answers at a point, and what they join to.
+pub fn answer_at(rt: &HostRuntime, order: &DealOrder, point: u32) -> Result<(), Stop> {
+    let task = Comparing { point };
+    with_expander(order.kind, OnKey { rt, order, task })
 }

@@ -1,90 +1,37 @@
-// Seeds, elements, rows and refusals as text.
-ghost use Rattle.std.specs.Prelude.{◌≡◌, min, if◌then◌else◌};
+// Rows as text, and the tables that they stand in.
+ghost use Rattle.std.specs.Prelude.{◌≡◌, min, length};
 
-use expander::Seed;
-use group::{Flags, Group, Pair, Word};
-use key::Row;
-use refusal::Refusal;
+use group::Group;
+use hextext::Hex;
+use key::{Row, Rows};
 use std::{fmt, io};
 
-// Bytes in hex.
-#[derive(Clone, Copy)]
-pub struct Hex(pub Seed);
-
-impl fmt::Display for Hex {
-    fn fmt<W: fmt::Write>(&self, f: &mut fmt::Formatter<W>) -> fmt::Result {
-        for b in self.0.bytes {
-            write!(f, "{b:02x}")?;
-        }
-        Ok(())
-    }
-}
-
-// An element's numbers, a pair's with a comma between.
-pub trait Element {
-    fn write_to<W: fmt::Write>(&self, f: &mut fmt::Formatter<W>) -> fmt::Result;
-}
-
-impl Element for Word {
-    fn write_to<W: fmt::Write>(&self, f: &mut fmt::Formatter<W>) -> fmt::Result {
-        let number = self.0;
-        write!(f, "{number}")
-    }
-}
-
-impl Element for Flags {
-    fn write_to<W: fmt::Write>(&self, f: &mut fmt::Formatter<W>) -> fmt::Result {
-        let number = self.0;
-        write!(f, "{number}")
-    }
-}
-
-impl<L: Element, R: Element> Element for Pair<L, R> {
-    fn write_to<W: fmt::Write>(&self, f: &mut fmt::Formatter<W>) -> fmt::Result {
-        self.left.write_to(f)?;
-        f.write_str(",")?;
-        self.right.write_to(f)
-    }
-}
-
-#[derive(Clone, Copy)]
-pub struct Numbers<G>(pub G);
-
-impl<G: Element> fmt::Display for Numbers<G> {
-    fn fmt<W: fmt::Write>(&self, f: &mut fmt::Formatter<W>) -> fmt::Result {
-        self.0.write_to(f)
-    }
-}
-
-// A bit as 0 or 1.
-pub fn digit(bit: bool) -> u8
-    ensures { result ≡ (if bit then 1 else 0) }
+// A table of so many rows, as far as the memory goes.
+pub fn table<'a, G: Group>(memory: &'a mut [Row<G>], count: u8) -> Rows<'a, G>
+    ensures count { length result.rows.now ≡ min count (length memory.old) }
 {
-    if bit { 1 } else { 0 }
+    let count = (count as usize).min(memory.len());
+    Rows::over(&mut memory[0..count])
 }
 
-// As many rows as the width, as far as there are.
-pub fn row_count(width: u8, most: usize) -> usize
-    ensures { result ≡ min width most }
-{
-    (width as usize).min(most)
-}
-
-pub fn print_refusal(rt: &HostRuntime, refusal: Refusal) -> io::Result<bool> {
-    let number = refusal.number();
-    println!(rt; "refused {number}: {refusal}")?;
-    Ok(false)
-}
-
-pub fn print_rows<G: Group + Element>(rt: &HostRuntime, rows: &[Row<G>]) -> io::Result<()> {
-    let mut number = 0u64;
-    for row in rows {
-        number = number.saturating_add(1);
-        let word = Hex(row.word);
-        let left = digit(row.left);
-        let right = digit(row.right);
-        let element = Numbers(row.element);
+fn print_rows<G: Group + fmt::Display>(rt: &HostRuntime, rows: &[Row<G>]) -> io::Result<()> {
+    for (i, row) in rows.iter().enumerate() {
+        let number = i + 1;
+        let word = Hex(&row.word.bytes);
+        let left = u8::from(row.left);
+        let right = u8::from(row.right);
+        let element = row.element;
         println!(rt; "row {number} word {word} left {left} right {right} element {element}")?;
     }
     Ok(())
+}
+
+// What both boxes hold of a comparison key: its rows and its final element.
+pub fn print_common<G: Group + fmt::Display>(
+    rt: &HostRuntime,
+    rows: &[Row<G>],
+    last: &G,
+) -> io::Result<()> {
+    print_rows(rt, rows)?;
+    println!(rt; "final {last}")
 }

@@ -4,21 +4,17 @@ ghost use Rattle.dealer.specs.Book.{dealt};
 ghost use Rattle.draft.specs.Drafts.{view};
 ghost use Rattle.office.specs.Dealing.{order_of};
 
-use crate::text::{Hex, print_refusal};
 use crate::wires::print_wire;
-use aes::Aes128;
 use bodies::{number_in, part_of};
-use chacha::ChaCha20;
+use console::{Stop, Task};
 use draft::Draft;
 use expander::Expander;
-use orders::Kind;
+use hextext::Hex;
 use reader::{body_in, check_book, header_in, read_wire};
 use refusal::Refusal;
-use std::io;
-use zero::Zero;
 
 // The header, and what each wire's body says.
-fn print_book(rt: &HostRuntime, book: &[u8], whole: bool) -> io::Result<()> {
+fn print_book(rt: &HostRuntime, book: &[u8], whole: bool) -> Result<(), Stop> {
     let long = book.len();
     let header = header_in(book);
     let number = header.number;
@@ -40,23 +36,25 @@ fn print_book(rt: &HostRuntime, book: &[u8], whole: bool) -> io::Result<()> {
     Ok(())
 }
 
-// Says what is in a book, or which question refuses it at a box with an expander of this kind.
-pub fn read_and_print(rt: &HostRuntime, kind: u8, book: &[u8], whole: bool) -> io::Result<()> {
-    match check_book(kind, book) {
-        Err(refusal) => print_refusal(rt, refusal),
-        Ok(()) => print_book(rt, book, whole),
-    }
+// Says what is in a book, unless it is refused at a box with an expander of this kind.
+pub fn read_and_print(
+    rt: &HostRuntime,
+    kind: u8,
+    book: &[u8],
+    whole: bool,
+) -> Result<(), Stop> {
+    check_book(kind, book)?;
+    print_book(rt, book, whole)
 }
 
 // A dealt book in words, and where all is said also in hex.
-fn print_dealt(rt: &HostRuntime, kind: u8, book: &[u8], whole: bool) -> io::Result<()> {
+fn print_dealt(rt: &HostRuntime, kind: u8, book: &[u8], whole: bool) -> Result<(), Stop> {
     read_and_print(rt, kind, book, whole)?;
     if whole {
         let bytes = Hex(book);
-        println!(rt; "hex {bytes}")
-    } else {
-        Ok(())
+        println!(rt; "hex {bytes}")?;
     }
+    Ok(())
 }
 
 // One box's book of the plan that was read.
@@ -72,41 +70,27 @@ fn deal_one<X: Expander>(
     dealer::deal(expander, draft.plan(), number, deal, draft.words(), out)
 }
 
-// How a plan's books are dealt: with which deal number, into how long a buffer, and whether all of them is said.
+// Deals both books of a plan with a deal number, each into a buffer of this length, and says all of them or an outline.
 #[derive(Clone, Copy)]
-pub struct Manner {
+pub struct DealBooks<'a> {
+    pub rt: &'a HostRuntime,
+    pub draft: &'a Draft,
     pub deal: u32,
     pub room: usize,
     pub whole: bool,
 }
 
 // Box 0's book and then box 1's, up to the first refusal.
-fn deal_books<X: Expander>(
-    rt: &HostRuntime,
-    expander: &X,
-    draft: &Draft,
-    manner: Manner,
-) -> io::Result<()> {
-    let mut out = vec![in rt.alloc(); 0u8; manner.room]?;
-    for number in 0..2 {
-        match deal_one(expander, draft, number, manner.deal, out.as_mut_slice()) {
-            Err(refusal) => return print_refusal(rt, refusal),
-            Ok(long) => print_dealt(
-                rt,
-                X::kind_number(),
-                part_of(out.as_slice(), 0, long),
-                manner.whole,
-            )?,
-        }
-    }
-    Ok(())
-}
+impl Task for DealBooks<'_> {
+    type Done = Result<(), Stop>;
 
-// Deals both books of a plan with an expander of this kind.
-pub fn deal_both(rt: &HostRuntime, draft: &Draft, kind: Kind, manner: Manner) -> io::Result<()> {
-    match kind {
-        Kind::Aes => deal_books(rt, &Aes128, draft, manner),
-        Kind::ChaCha => deal_books(rt, &ChaCha20, draft, manner),
-        Kind::Zero => deal_books(rt, &Zero, draft, manner),
+    fn run<X: Expander>(self, expander: &X) -> Result<(), Stop> {
+        let mut out = vec![in self.rt.alloc(); 0u8; self.room]?;
+        for number in 0..2 {
+            let long = deal_one(expander, self.draft, number, self.deal, out.as_mut_slice())?;
+            let book = part_of(out.as_slice(), 0, long);
+            print_dealt(self.rt, X::KIND, book, self.whole)?;
+        }
+        Ok(())
     }
 }

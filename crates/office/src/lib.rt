@@ -4,24 +4,20 @@
 ghost use Rattle.std.specs.Prelude.{◌≡◌, OnOk};
 ghost use Rattle.planlines.specs.Grammar.{parsed};
 ghost use Rattle.draft.specs.Drafts.{view, after};
-ghost use Rattle.office.specs.Kinds.{kind_number};
 
-use aes::Aes128;
-use chacha::ChaCha20;
-use console::Session;
+use console::{Session, Stop, with_expander};
 use draft::Draft;
-use expander::Expander;
-use orders::{Fault, Kind, word_at};
+use orders::{Kind, word_at};
 use planlines::{PlanLine, fill_bytes, parse_plan_line};
 use std::io;
-use zero::Zero;
 
 mod books;
 mod keys;
-mod text;
+mod kinds;
 mod wires;
 
-use books::{Manner, deal_both, read_and_print};
+use books::{DealBooks, read_and_print};
+use kinds::kind_number;
 
 // What is remembered: the plan that is being read, and what the console remembers of keys and gates.
 #[derive(Drop)]
@@ -30,25 +26,8 @@ pub struct Office {
     session: Session,
 }
 
-fn print_fault(rt: &HostRuntime, fault: Fault) -> io::Result<()> {
-    let word = fault.word;
-    let what = fault.what;
-    println!(rt; "word {word}: {what}")
-}
-
-// The number that stands for a kind of expander in books.
-fn kind_number(kind: Kind) -> u8
-    ensures { result ≡ kind_number kind }
-{
-    match kind {
-        Kind::Aes => Aes128::kind_number(),
-        Kind::ChaCha => ChaCha20::kind_number(),
-        Kind::Zero => Zero::kind_number(),
-    }
-}
-
 // Reads the book that a word writes in hex.
-fn book_line(rt: &HostRuntime, kind: Kind, word: &[u8], bytes: usize) -> io::Result<()> {
+fn book_line(rt: &HostRuntime, kind: Kind, word: &[u8], bytes: usize) -> Result<(), Stop> {
     let mut book = vec![in rt.alloc(); 0u8; bytes]?;
     fill_bytes(word, book.as_mut_slice());
     read_and_print(rt, kind_number(kind), book.as_slice(), true)
@@ -63,33 +42,45 @@ impl Office {
         }
     }
 
-    // Says what a line asks for. What needs a plan says so where none was begun.
-    fn answer(&self, rt: &HostRuntime, line: &[u8], order: PlanLine) -> io::Result<()> {
+    // Says what a line asks for, where it can. What needs a plan cannot where none was begun.
+    fn answer(&self, rt: &HostRuntime, line: &[u8], order: PlanLine) -> Result<(), Stop> {
         match order {
             PlanLine::Other | PlanLine::Begin { .. } => Ok(()),
             PlanLine::Book { kind, bytes } => book_line(rt, kind, word_at(line, 3), bytes),
-            _ if !self.draft.is_begun() => println!(rt; "no plan was begun"),
+            _ if !self.draft.is_begun() => Err(Stop::Cannot("no plan was begun")),
             PlanLine::Gate(_) | PlanLine::Words { .. } => Ok(()),
             PlanLine::Books {
                 kind,
                 deal,
                 room,
                 whole,
-            } => deal_both(rt, &self.draft, kind, Manner { deal, room, whole }),
+            } => {
+                let draft = &self.draft;
+                with_expander(
+                    kind,
+                    DealBooks {
+                        rt,
+                        draft,
+                        deal,
+                        room,
+                        whole,
+                    },
+                )
+            }
         }
     }
 
-    // Carries out one line.
+    // Carries out one line, or says why not.
     pub fn perform(&mut self, rt: &HostRuntime, line: &[u8]) -> io::Result<()>
         ensures { OnOk result (view self.new.draft
             ≡ after line.now (parsed line.now) (view self.old.draft)) }
     {
         match parse_plan_line(line) {
-            Err(fault) => print_fault(rt, fault),
+            Err(fault) => Stop::Fault(fault).say(rt),
             Ok(PlanLine::Other) => self.session.perform(rt, line),
             Ok(order) => {
                 self.draft.follow(line, order)?;
-                self.answer(rt, line, order)
+                self.answer(rt, line, order).or_else(|stop| stop.say(rt))
             }
         }
     }
@@ -98,10 +89,8 @@ impl Office {
 // Carries out every line of the input; whether there was one.
 pub fn run(rt: &HostRuntime) -> io::Result<bool> {
     let mut office = Office::new(rt);
-    let mut any = false;
-    for line in rt.lines(rt.alloc()) {
-        any = true;
+    rt.lines(rt.alloc()).try_fold(false, |_, line| {
         office.perform(rt, line?.as_bytes())?;
-    }
-    Ok(any)
+        Ok(true)
+    })
 }

@@ -1,6 +1,7 @@
 // What a book says of one wire, in words.
 use crate::keys::print_key;
 use bodies::{GateHead, WireBody, key_in};
+use console::Stop;
 use std::{fmt, io};
 
 // A gate's name and the wires that it reads.
@@ -64,22 +65,22 @@ fn print_gate(
     shown: Option<u32>,
     gate: GateHead,
     whole: bool,
-) -> io::Result<()> {
+) -> Result<(), Stop> {
     let key = key_in(body, gate);
     let named = Named(gate);
     let seen = Seen(shown);
     let parameters = Parameters(gate);
     print!(rt; "{named} {seen}{parameters}")?;
     if key.is_empty() {
-        return println!(rt);
+        println!(rt)?;
+        return Ok(());
     }
     let long = key.len();
     println!(rt; " key {long}")?;
     if whole {
-        print_key(rt, width, gate, key)
-    } else {
-        Ok(())
+        print_key(rt, width, gate, key)?;
     }
+    Ok(())
 }
 
 // The rest of a wire's line, and the lines of its key.
@@ -89,10 +90,11 @@ pub fn print_wire(
     body: &[u8],
     wire: Option<WireBody>,
     whole: bool,
-) -> io::Result<()> {
+) -> Result<(), Stop> {
     match wire {
-        None => println!(rt; "nothing known"),
-        Some(WireBody::Input { owner, mask }) => print_input(rt, owner, mask),
-        Some(WireBody::Gate { shown, gate }) => print_gate(rt, width, body, shown, gate, whole),
+        None => println!(rt; "nothing known")?,
+        Some(WireBody::Input { owner, mask }) => print_input(rt, owner, mask)?,
+        Some(WireBody::Gate { shown, gate }) => print_gate(rt, width, body, shown, gate, whole)?,
     }
+    Ok(())
 }

@@ -5,11 +5,11 @@ use office::run;
 
 mod plans;
 
-use plans::plans;
+use plans::Example;
 
 fn main(rt: HostRuntime) -> anyhow::Result<()> {
     if run(&rt)? {
         return Ok(());
     }
-    plans(&rt)
+    Example::new(&rt).plans()
 }

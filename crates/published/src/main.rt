@@ -5,10 +5,8 @@
 use aes::{Aes128, RoundKeys};
 use chacha::{ChaCha20, block, quarter_round, quarter_round_at};
 use expander::{Expander, Seed};
-use hex::Hex;
+use hextext::Hex;
 use std::io;
-
-mod hex;
 
 // The bytes 0, 1, 2 and so on.
 const COUNT_16: &[u8; 16] = b"\x00\x01\x02\x03\x04\x05\x06\x07\x08\x09\x0a\x0b\x0c\x0d\x0e\x0f";
