@@ -2,39 +2,29 @@
 #![tactic(auto)]
 
 ghost use Rattle.std.specs.Prelude.{◌≡◌, true, false, [], ◌∷◌, ◌++◌, OnOk};
-ghost use Rattle.draft.specs.Drafts.{numbers_of, drafted, view, with_row, with_words, followed};
+ghost use Rattle.draft.specs.Drafts.{numbers_of, numbers_held, drafted, view, with_row, with_words, followed};
 
-use orders::word_at;
+use orders::{Number, word_at};
 use plan::{Plan, PlanRow};
 use planlines::{PlanLine, number_in};
 use std::alloc::{AllocError, Global};
 
 #[derive(Drop)]
 pub struct Draft {
-    begun: bool,
-    width: u8,
+    // None where no plan was begun.
+    width: Option<u8>,
     owners: Vec<u8>,
     rows: Vec<PlanRow>,
     words: Vec<u64>,
 }
 
-// Adds the first numbers of a word to the owners.
-fn push_owners(owners: &mut Vec<u8>, word: &[u8], count: usize) -> Result<(), AllocError>
-    ensures { OnOk result (owners.new.items ≡ owners.old.items ++ numbers_of 255 word.now count) }
+// Adds the first numbers of a word to a list.
+fn push_numbers<N: Number>(list: &mut Vec<N>, word: &[u8], count: usize) -> Result<(), AllocError>
+    ensures { OnOk result (list.new.items ≡ list.old.items ++ numbers_held N.held N.MOST word.now count) }
 {
+    // Stays: by their places, since past the last number of the word stand zeros.
     for k in 0..count {
-        owners.push(number_in(word, k, 255) as u8)?;
-    }
-    Ok(())
-}
-
-// Adds the first numbers of a word to the random words.
-fn push_words(words: &mut Vec<u64>, word: &[u8], count: usize) -> Result<(), AllocError>
-    ensures { OnOk result (words.new.items
-        ≡ words.old.items ++ numbers_of 18446744073709551615 word.now count) }
-{
-    for k in 0..count {
-        words.push(number_in(word, k, u64::MAX))?;
+        list.push(N::hold(number_in(word, k, N::MOST)))?;
     }
     Ok(())
 }
@@ -45,8 +35,7 @@ impl Draft {
         ensures { view result ≡ drafted false 0 [] [] [] }
     {
         Draft {
-            begun: false,
-            width: 0,
+            width: None,
             owners: Vec::new(heap),
             rows: Vec::new(heap),
             words: Vec::new(heap),
@@ -57,19 +46,18 @@ impl Draft {
     pub fn is_begun(&self) -> bool
         ensures { result ≡ (view self.now).begun }
     {
-        self.begun
+        self.width.is_some()
     }
 
     // A new plan: its width and the first owners of a word, without gates and random words.
     fn begin(&mut self, width: u8, word: &[u8], owners: usize) -> Result<(), AllocError>
         ensures { OnOk result (view self.new ≡ drafted true width (numbers_of 255 word.now owners) [] []) }
     {
-        self.begun = true;
-        self.width = width;
+        self.width = Some(width);
         self.owners.clear();
         self.rows.clear();
         self.words.clear();
-        push_owners(&mut self.owners, word, owners)
+        push_numbers(&mut self.owners, word, owners)
     }
 
     // One gate more.
@@ -84,7 +72,7 @@ impl Draft {
     fn add_words(&mut self, word: &[u8], count: usize) -> Result<(), AllocError>
         ensures { OnOk result (view self.new ≡ with_words (view self.old) word.now count) }
     {
-        push_words(&mut self.words, word, count)
+        push_numbers(&mut self.words, word, count)
     }
 
     // What a line says of a plan. Without one, gates and random words are passed over.
@@ -93,8 +81,8 @@ impl Draft {
     {
         match order {
             PlanLine::Begin { width, owners } => self.begin(width, word_at(line, 3), owners),
-            PlanLine::Gate(row) if self.begun => self.add_row(row),
-            PlanLine::Words { count } if self.begun => self.add_words(word_at(line, 2), count),
+            PlanLine::Gate(row) if self.is_begun() => self.add_row(row),
+            PlanLine::Words { count } if self.is_begun() => self.add_words(word_at(line, 2), count),
             _ => Ok(()),
         }
     }
@@ -104,7 +92,7 @@ impl Draft {
             × (result.rows.now ≡ (view self.now).rows) }
     {
         Plan {
-            width: self.width,
+            width: self.width.unwrap_or(0),
             owners: self.owners.as_slice(),
             rows: self.rows.as_slice(),
         }

@@ -1,39 +1,35 @@
 -- Reading back what was written.
-use Rattle.std.proofs.Common.{◌≡◌, ℕ, ◌+◌, ◌*◌, ◌/◌, ◌%◌, ◌^◌, ◌<◌, ◌≤◌, Bool, true, false, cond, not, ◌&&◌, eqb, ltb, leb, List, [], ◌∷◌, ◌++◌, length, Ok, Err, decimal, Result, sym, refl, ap, ◌∙◌, arith, lt-ltb, eq-eqb, ne_eqb, le-leb}
+use Rattle.std.proofs.Common.{◌≡◌, ℕ, suc, ◌+◌, ◌*◌, ◌/◌, ◌%◌, ◌^◌, ◌<◌, ◌≤◌, Bool, true, false, cond, not, eqb, ltb, leb, List, [], ◌∷◌, ◌++◌, length, get_or, Ok, Err, decimal, Result, sym, refl, ap, ◌∙◌, arith, lt-ltb, eq-eqb, ne_eqb, le-leb}
 use Rattle.std.proofs.lemmas.Fmt.{decimal_by_steps}
 use Rattle.std.proofs.lemmas.List.{length_push}
 use Rattle.std.proofs.lemmas.Bool.{and_parts, and_from, cond-true}
 use Rattle.std.proofs.lemmas.Bool.Decides.{nat_tests}
-use Rattle.std.specs.List.{AllByRecursion}
+use Rattle.std.proofs.lemmas.List.Splits.{slice_split_none, slice_split_at}
+use Rattle.std.proofs.lemmas.List.Sums.{AllPass-from_list_all}
+use Rattle.std.specs.List.{All, AllByRecursion, list_all}
 use Rattle.expander.specs.declared.Seed.{Seed}
 use Rattle.orders.specs.declared.types.Wrong.{Wrong}
 use Rattle.orders.specs.declared.types.Wrong.TheVariants.{NotNumber, TooLarge, NotHex, SeedLength}
-use Rattle.orders.specs.Text.{onto, pieces, filled, words, digit, digits, numeral, value, bounded, decimal_of, hex, hexes, hex_value, hex_bytes, seed_from}
+use Rattle.orders.specs.Text.{pieces, filled, words, digit, digits, numeral, value, bounded, number_of, decimal_of, hex, hexes, hex_value, hex_bytes, seed_from}
 use Rattle.orders.specs.Lines.{joined_by, hex_digit, hex_text, SeedFits}
 use Rattle.orders.proofs.Numbers.{value_push, digit_range}
 
 -- no byte is c
 abbrev pub lacks : ℕ → List ℕ → Bool
-lacks c [] = true
-lacks c (b ∷ bs) = not (eqb b c) && lacks c bs
+lacks c w = list_all (λ b. not (eqb b c)) w
 
 not_parts : (t : Bool) → not t ≡ true → t ≡ false
 not_parts true h = sym h
 not_parts false h = refl
 
+lacking_all : (c : ℕ) (w : List ℕ) → lacks c w ≡ true → All (λ b. eqb b c ≡ false) w
+lacking_all c w h k d lt = not_parts (eqb (get_or w k d) c) (AllPass-from_list_all (λ b. not (eqb b c)) w h k d lt)
+
 pieces_plain : (c : ℕ) (w : List ℕ) → lacks c w ≡ true → pieces c w ≡ w ∷ []
-pieces_plain c [] h = refl
-pieces_plain c (b ∷ bs) h =
-    let p = and_parts (not (eqb b c)) (lacks c bs) h in
-    let no : eqb b c ≡ false = not_parts (eqb b c) p.0 in
-    rw no (ap (onto b) (pieces_plain c bs p.1))
+pieces_plain c w h = slice_split_none (λ b. eqb b c) w (lacking_all c w h)
 
 pieces_front : (c : ℕ) (w rest : List ℕ) → lacks c w ≡ true → pieces c (w ++ (c ∷ rest)) ≡ w ∷ pieces c rest
-pieces_front c [] rest h = let yes : eqb c c ≡ true = eq-eqb c c refl in rw yes refl
-pieces_front c (b ∷ bs) rest h =
-    let p = and_parts (not (eqb b c)) (lacks c bs) h in
-    let no : eqb b c ≡ false = not_parts (eqb b c) p.0 in
-    rw no (ap (onto b) (pieces_front c bs rest p.1))
+pieces_front c w rest h = slice_split_at (λ b. eqb b c) w c rest (lacking_all c w h) (eq-eqb c c refl)
 
 -- cutting undoes joining
 pub pieces_joined : (c : ℕ) (w : List ℕ) (ws : List (List ℕ)) → AllByRecursion (λ v. lacks c v ≡ true) (w ∷ ws)
@@ -48,7 +44,7 @@ Word w = (0 < length w) × (lacks 32 w ≡ true)
 filled_all : (ws : List (List ℕ)) → AllByRecursion Word ws → filled ws ≡ ws
 filled_all [] h = refl
 filled_all ([] ∷ ws) h = absurd (omega (arith, h.0.0))
-filled_all ((b ∷ bs) ∷ ws) h = ap (λ vs. (b ∷ bs) ∷ vs) (filled_all ws h.1)
+filled_all ((b ∷ bs) ∷ ws) h = rw (ne_eqb (suc (length bs)) 0 (λ z. omega arith)) (ap (λ vs. (b ∷ bs) ∷ vs) (filled_all ws h.1))
 
 lacking : (ws : List (List ℕ)) → AllByRecursion Word ws → AllByRecursion (λ v. lacks 32 v ≡ true) ws
 lacking [] h = tt
@@ -93,12 +89,12 @@ pub decimal_word : (n : ℕ) → n < 2 ^ 64 → Word (decimal n)
 decimal_word n h = let p = decimal_numeral n h in (p.some, lacks_digits 32 (decimal n) (omega arith) p.all)
 
 pub decimal_back : (most n : ℕ) → n ≤ most → n < 2 ^ 64 → decimal_of most (decimal n) ≡ Ok n
-unfolding decimal_of
+unfolding number_of
 decimal_back most n h fits =
     let p = decimal_numeral n fits in
-    cond-true (numeral (decimal n)) (bounded most (value (decimal n))) (Err NotNumber)
+    cond-true (numeral (decimal n)) (bounded (λ m. m) most (value (decimal n))) (Err NotNumber)
     (and_from (ltb 0 (length (decimal n))) (digits (decimal n)) (lt-ltb 0 (length (decimal n)) p.some) p.all)
-    ∙ ap (bounded most) p.worth ∙ cond-true (leb n most) (Ok n) (Err TooLarge) (le-leb n most h)
+    ∙ ap (bounded (λ m. m) most) p.worth ∙ cond-true (leb n most) (Ok n) (Err TooLarge) (le-leb n most h)
 
 -- hex digits
 hex_digit_is : (d : ℕ) → d < 16 → hex (hex_digit d) ≡ true

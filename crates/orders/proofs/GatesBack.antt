@@ -129,15 +129,19 @@ body_back (gate.Flag mask low high pattern random) h w1 w2 w3 w4 =
     next _ (short_ok mask 5 h.0) ∙ next _ (short_ok low 6 h.1) ∙ next _ (short_ok high 7 h.2)
     ∙ next _ (short_ok pattern 8 h.3) ∙ next _ (random_ok 8 random 9 (omega arith) h.4)
 body_back (gate.Shift mask by random) h w1 w2 w3 w4 =
-    next _ (short_ok mask 5 h.0) ∙ next _ (byte_ok by 6 h.1) ∙ next _ (random_ok 10 random 7 (omega arith) h.2)
+    next (λ s. Ok (gate.Shift s.0 s.1 s.2))
+    (next _ (short_ok mask 5 h.0) ∙ next _ (byte_ok by 6 h.1) ∙ next _ (random_ok 10 random 7 (omega arith) h.2))
 body_back (gate.Signed mask by random) h w1 w2 w3 w4 =
-    next _ (short_ok mask 5 h.0) ∙ next _ (byte_ok by 6 h.1) ∙ next _ (random_ok 10 random 7 (omega arith) h.2)
+    next (λ s. Ok (gate.Signed s.0 s.1 s.2))
+    (next _ (short_ok mask 5 h.0) ∙ next _ (byte_ok by 6 h.1) ∙ next _ (random_ok 10 random 7 (omega arith) h.2))
 body_back (gate.Product mask mask2 random) h w1 w2 w3 w4 =
     next _ (short_ok mask 5 h.0) ∙ next _ (short_ok mask2 6 h.1) ∙ next _ (random_ok 4 random 7 (omega arith) h.2)
-body_back (gate.Sum mask mask2) h w1 w2 w3 w4 = next _ (short_ok mask 5 h.0) ∙ next _ (short_ok mask2 6 h.1)
+body_back (gate.Sum mask mask2) h w1 w2 w3 w4 =
+    next (λ m. Ok (gate.Sum m.0 m.1)) (next _ (short_ok mask 5 h.0) ∙ next _ (short_ok mask2 6 h.1))
 body_back (gate.Scale mask c d) h w1 w2 w3 w4 =
     next _ (short_ok mask 5 h.0) ∙ next _ (short_ok c 6 h.1) ∙ next _ (short_ok d 7 h.2)
-body_back (gate.Xor mask mask2) h w1 w2 w3 w4 = next _ (short_ok mask 5 h.0) ∙ next _ (short_ok mask2 6 h.1)
+body_back (gate.Xor mask mask2) h w1 w2 w3 w4 =
+    next (λ m. Ok (gate.Xor m.0 m.1)) (next _ (short_ok mask 5 h.0) ∙ next _ (short_ok mask2 6 h.1))
 
 pub gate_back : (g : GateOrder) → GateFits g → gate_of (gate_words g) ≡ Ok g
 gate_back g h =

@@ -1,8 +1,8 @@
 pub mod Back
 pub mod GatesBack
 pub mod Orders
-pub mod Places
 pub mod Read
 pub mod WordsBack
 pub mod Numbers
-pub mod Pieces
+pub mod Chosen
+pub mod Made

@@ -1,16 +1,12 @@
 -- Digits and the numbers that they write.
-use Rattle.std.proofs.Common.{◌≡◌, ℕ, zero, suc, ◌+◌, ◌-◌, ◌*◌, ◌^◌, ◌<◌, ◌≤◌, min, Bool, true, false, ◌&&◌, leb, List, [], ◌∷◌, ◌++◌, length, get_or, take, drop, Ok, Err, sym, refl, ap, ◌∙◌, inl, inr, mul_assoc, pow-suc, arith, length-append, leb-true}
+use Rattle.std.proofs.Common.{◌≡◌, ℕ, zero, suc, ◌+◌, ◌-◌, ◌*◌, ◌^◌, ◌<◌, ◌≤◌, min, true, false, leb, List, [], ◌∷◌, ◌++◌, length, get_or, take, Ok, Err, sym, refl, ap, ◌∙◌, mul_assoc, pow-suc, arith, length-append, leb-true, le-leb, cond}
 use borrow.Author.Tests.{lt-leb}
-use Rattle.std.proofs.lemmas.List.{at_drop_more, take_more}
-use Rattle.std.proofs.lemmas.Bool.{and_parts, cases_lt, cond-false}
-use Rattle.orders.specs.declared.types.Wrong.TheVariants.{TooLarge}
-use Rattle.orders.specs.Text.{digit, digits, value, bounded, hex, hexes, hex_value, hex_bytes}
-
-pub digits_step : (w : List ℕ) (i : ℕ) → i < length w → digit (get_or w i 0) ≡ true → digits (drop i w) ≡ digits (drop (i + 1) w)
-digits_step w i h e = at_drop_more digits w i 0 h ∙ ap (λ b. b && digits (drop (i + 1) w)) e
-
-pub digits_stop : (w : List ℕ) (i : ℕ) → i < length w → digit (get_or w i 0) ≡ false → digits (drop i w) ≡ false
-digits_stop w i h e = at_drop_more digits w i 0 h ∙ ap (λ b. b && digits (drop (i + 1) w)) e
+use Rattle.std.proofs.lemmas.List.{take_more}
+use Rattle.std.proofs.lemmas.List.Sums.{AllPass-from_list_all}
+use Rattle.std.proofs.lemmas.Bool.{and_parts, cond-true, cond-false}
+use Rattle.orders.specs.declared.types.Wrong.TheVariants.{NotNumber, TooLarge, NotHex}
+use Rattle.orders.specs.Grammar.{and_then}
+use Rattle.orders.specs.Text.{digit, digits, numeral, value, bounded, number_of, decimal_of, hex, hexes, hex_value, hex_of, hex_bytes, or_zero, byte_of}
 
 pub digit_at : (w : List ℕ) (i : ℕ) → digits w ≡ true → i < length w → digit (get_or w i 0) ≡ true
 digit_at [] i e h = absurd (omega arith)
@@ -35,29 +31,35 @@ pub value_more : (w : List ℕ) (i : ℕ) → i < length w → value (take (i + 
 value_more w i h = ap value (take_more w i 0 h) ∙ value_push (take i w) (get_or w i 0)
 
 -- a number past the limit is too large also where it is cut down to one past it
-pub bounded_cut : (most n : ℕ) → bounded most (min n (most + 1)) ≡ bounded most n
-bounded_cut most n =
-    elim (cases_lt most n) [
-      | inl h ↦
-          cond-false (leb (min n (most + 1)) most) (Ok (min n (most + 1))) (Err TooLarge) (lt-leb (min n (most + 1)) most (omega arith))
-          ∙ sym (cond-false (leb n most) (Ok n) (Err TooLarge) (lt-leb n most h))
-      | inr h ↦ let same : min n (most + 1) ≡ n = omega arith in ap (bounded most) same
+pub decimal_small : (w : List ℕ) (most n : ℕ) → numeral w ≡ true → n ≡ min (value w) (most + 1) → n ≤ most → Ok n ≡ decimal_of most w
+unfolding number_of
+decimal_small w most n some e h =
+    let same : value w ≡ n = omega arith in
+    sym (cond-true (numeral w) (bounded (λ m. m) most (value w)) (Err NotNumber) some
+    ∙ ap (bounded (λ m. m) most) same ∙ cond-true (leb n most) (Ok n) (Err TooLarge) (le-leb n most h))
+
+pub decimal_large : (w : List ℕ) (most n : ℕ) → numeral w ≡ true → n ≡ min (value w) (most + 1) → most < n → Err TooLarge ≡ decimal_of most w
+unfolding number_of
+decimal_large w most n some e h =
+    sym (cond-true (numeral w) (bounded (λ m. m) most (value w)) (Err NotNumber) some
+    ∙ cond-false (leb (value w) most) (Ok (value w)) (Err TooLarge) (lt-leb (value w) most (omega arith)))
+
+pub not_numeral : (w : List ℕ) (most : ℕ) → numeral w ≡ false → Err NotNumber ≡ decimal_of most w
+unfolding number_of
+not_numeral w most none = sym (cond-false (numeral w) (bounded (λ m. m) most (value w)) (Err NotNumber) none)
+
+-- a number as a type holds it
+pub number_held : {A : Type 0} (held : ℕ → A) (most : ℕ) (w : List ℕ)
+    → number_of held most w ≡ and_then (decimal_of most w) (λ n. Ok (held n))
+unfolding number_of
+number_held held most w =
+    elim (numeral w) as (λ t. cond t (bounded held most (value w)) (Err NotNumber)
+    ≡ and_then (cond t (bounded (λ n. n) most (value w)) (Err NotNumber)) (λ n. Ok (held n))) [
+      | true ↦
+          elim (leb (value w) most) as (λ t. cond t (Ok (held (value w))) (Err TooLarge)
+          ≡ and_then (cond t (Ok (value w)) (Err TooLarge)) (λ n. Ok (held n))) [ true ↦ refl | false ↦ refl ]
+      | false ↦ refl
     ]
-
-pub and_true : (b d : Bool) → d ≡ true → b ≡ (b && d)
-and_true true d e = sym e
-and_true false d e = refl
-
-pub hexes_step : (w : List ℕ) (i : ℕ) → i < length w → hex (get_or w i 0) ≡ true → hexes (drop i w) ≡ hexes (drop (i + 1) w)
-hexes_step w i h e = at_drop_more hexes w i 0 h ∙ ap (λ b. b && hexes (drop (i + 1) w)) e
-
-pub hexes_stop : (w : List ℕ) (i : ℕ) → i < length w → hex (get_or w i 0) ≡ false → hexes (drop i w) ≡ false
-hexes_stop w i h e = at_drop_more hexes w i 0 h ∙ ap (λ b. b && hexes (drop (i + 1) w)) e
-
-pub hex_at : (w : List ℕ) (i : ℕ) → hexes w ≡ true → i < length w → hex (get_or w i 0) ≡ true
-hex_at [] i e h = absurd (omega arith)
-hex_at (c ∷ cs) zero e h = (and_parts (hex c) (hexes cs) e).0
-hex_at (c ∷ cs) (suc i) e h = hex_at cs i (and_parts (hex c) (hexes cs) e).1 (omega arith)
 
 pub length_hex_bytes : (w : List ℕ) (n : ℕ) → length w ≡ 2 * n → length (hex_bytes w) ≡ n
 length_hex_bytes [] n h = omega arith
@@ -76,3 +78,14 @@ hex_bytes_at (a ∷ b ∷ cs) (suc i) h =
     hex_bytes_at cs i (omega arith)
     ∙ ap (λ n. 16 * hex_value (get_or (a ∷ b ∷ cs) n 0) + hex_value (get_or cs (2 * i + 1) 0)) even
     ∙ ap (λ n. 16 * hex_value (get_or (a ∷ b ∷ cs) (2 * suc i) 0) + hex_value (get_or (a ∷ b ∷ cs) n 0)) odd
+
+digit_worth : (w : List ℕ) (i : ℕ) → hexes w ≡ true → i < length w → or_zero (hex_of (get_or w i 0)) ≡ hex_value (get_or w i 0)
+digit_worth w i h lt =
+    let c = get_or w i 0 in
+    ap (λ t. or_zero (cond t (Ok (hex_value c)) (Err NotHex))) (AllPass-from_list_all hex w h i 0 lt)
+
+pub byte_read : (w : List ℕ) (i : ℕ) → hexes w ≡ true → 2 * i + 1 < length w
+    → byte_of (get_or w (2 * i) 0) (get_or w (2 * i + 1) 0) ≡ get_or (hex_bytes w) i 0
+byte_read w i h lt =
+    ap (λ n. 16 * n + or_zero (hex_of (get_or w (2 * i + 1) 0))) (digit_worth w (2 * i) h (omega arith))
+    ∙ ap (λ n. 16 * hex_value (get_or w (2 * i) 0) + n) (digit_worth w (2 * i + 1) h lt) ∙ sym (hex_bytes_at w i lt)

@@ -1,6 +1,7 @@
 -- Words of a line, read back one by one.
 use Rattle.std.proofs.Common.{◌≡◌, ℕ, ◌^◌, ◌<◌, true, not, eqb, List, [], ◌∷◌, ◌++◌, length, Ok, Err, decimal, Result, refl, ap, ◌∙◌, arith, length-append, ne_eqb}
-use Rattle.std.proofs.lemmas.Bool.{cond-false, and_from, and_parts}
+use Rattle.std.proofs.lemmas.Bool.{cond-false, and_from}
+use Rattle.std.proofs.lemmas.List.Folds.{list_all-append}
 use Rattle.std.specs.List.{AllByRecursion}
 use Rattle.orders.specs.declared.types.Kind.{Kind}
 use Rattle.orders.specs.declared.types.Kind.TheVariants.{Aes, ChaCha, Zero}
@@ -25,10 +26,7 @@ kind_back ChaCha = refl
 kind_back Zero = refl
 
 lacks_append : (c : ℕ) (xs ys : List ℕ) → lacks c xs ≡ true → lacks c ys ≡ true → lacks c (xs ++ ys) ≡ true
-lacks_append c [] ys h k = k
-lacks_append c (x ∷ xs) ys h k =
-    let p = and_parts (not (eqb x c)) (lacks c xs) h in
-    and_from (not (eqb x c)) (lacks c (xs ++ ys)) p.0 (lacks_append c xs ys p.1 k)
+lacks_append c xs ys h k = list_all-append (λ b. not (eqb b c)) xs ys ∙ and_from (lacks c xs) (lacks c ys) h k
 
 pub joined_word : (v : List ℕ) (vs : List (List ℕ)) → AllByRecursion Word (v ∷ vs) → Word (joined_by 44 (v ∷ vs))
 joined_word v [] h = h.0

@@ -136,6 +136,18 @@ short_field ws n = field (decimal_of 4294967295) ws n
 abbrev pub byte_field : List (List ℕ) → ℕ → Result ℕ Fault
 byte_field ws n = field (decimal_of 255) ws n
 
+-- MASK MASK2
+abbrev pub two_masks_of : List (List ℕ) → Result (ℕ × ℕ) Fault
+two_masks_of ws = and_then (short_field ws 5) (λ mask. and_then (short_field ws 6) (λ mask2. ended ws 7 (mask, mask2)))
+
+-- MASK BY WORDS
+abbrev pub shift_of : List (List ℕ) → Result (ℕ × ℕ × List ℕ) Fault
+shift_of ws =
+    and_then (short_field ws 5) (λ mask.
+    and_then (byte_field ws 6) (λ by.
+    and_then (field (random_words_of 10) ws 7) (λ random.
+    ended ws 8 (mask, by, random))))
+
 -- the words from number 5 on
 abbrev pub body_of : GateName → List (List ℕ) → Result GateBody Fault
 -- MASK LOW HIGH C0,C1,C2,C3 WORDS
@@ -154,40 +166,22 @@ body_of Flag ws =
     and_then (short_field ws 8) (λ pattern.
     and_then (field (random_words_of 8) ws 9) (λ random.
     ended ws 10 (gate.Flag mask low high pattern random))))))
--- MASK BY WORDS
-body_of Shift ws =
-    and_then (short_field ws 5) (λ mask.
-    and_then (byte_field ws 6) (λ by.
-    and_then (field (random_words_of 10) ws 7) (λ random.
-    ended ws 8 (gate.Shift mask by random))))
--- MASK BY WORDS
-body_of Signed ws =
-    and_then (short_field ws 5) (λ mask.
-    and_then (byte_field ws 6) (λ by.
-    and_then (field (random_words_of 10) ws 7) (λ random.
-    ended ws 8 (gate.Signed mask by random))))
+body_of Shift ws = and_then (shift_of ws) (λ s. Ok (gate.Shift s.0 s.1 s.2))
+body_of Signed ws = and_then (shift_of ws) (λ s. Ok (gate.Signed s.0 s.1 s.2))
 -- MASK MASK2 WORDS
 body_of Product ws =
     and_then (short_field ws 5) (λ mask.
     and_then (short_field ws 6) (λ mask2.
     and_then (field (random_words_of 4) ws 7) (λ random.
     ended ws 8 (gate.Product mask mask2 random))))
--- MASK MASK2
-body_of Sum ws =
-    and_then (short_field ws 5) (λ mask.
-    and_then (short_field ws 6) (λ mask2.
-    ended ws 7 (gate.Sum mask mask2)))
+body_of Sum ws = and_then (two_masks_of ws) (λ m. Ok (gate.Sum m.0 m.1))
 -- MASK C D
 body_of Scale ws =
     and_then (short_field ws 5) (λ mask.
     and_then (short_field ws 6) (λ c.
     and_then (short_field ws 7) (λ d.
     ended ws 8 (gate.Scale mask c d))))
--- MASK MASK2
-body_of Xor ws =
-    and_then (short_field ws 5) (λ mask.
-    and_then (short_field ws 6) (λ mask2.
-    ended ws 7 (gate.Xor mask mask2)))
+body_of Xor ws = and_then (two_masks_of ws) (λ m. Ok (gate.Xor m.0 m.1))
 
 -- gate KIND GATE WIDTH and what the gate takes
 abbrev pub gate_of : List (List ℕ) → Result GateOrder Fault

@@ -1,24 +1,17 @@
 -- Texts as lists of bytes: cut in pieces and words, and read as decimal and hex numbers.
-use Rattle.std.specs.Prelude.{◌≡◌, ℕ, ◌+◌, ◌-◌, ◌*◌, ◌^◌, ◌<◌, Bool, true, cond, ◌&&◌, ◌||◌, List, [], ◌∷◌, length, Ok, Err, Result, ◌==◌, nat_le, nat_lt, slice_index, slice_index_or}
+use Rattle.std.specs.Prelude.{◌≡◌, ℕ, ◌+◌, ◌-◌, ◌*◌, ◌^◌, ◌<◌, Bool, cond, ◌&&◌, ◌||◌, List, [], ◌∷◌, length, Ok, Err, Result, ◌==◌, nat_le, nat_lt, slice_index, slice_index_or, filter, not}
+use Rattle.std.specs.List.{slice_split, list_all}
 use Rattle.expander.specs.declared.Seed.{Seed}
 use Rattle.orders.specs.declared.types.Wrong.{Wrong}
 use Rattle.orders.specs.declared.types.Wrong.TheVariants.{NotNumber, TooLarge, NotHex, SeedLength}
 
--- a byte put in front of the first piece
-abbrev pub onto : ℕ → List (List ℕ) → List (List ℕ)
-onto b [] = (b ∷ []) ∷ []
-onto b (p ∷ ps) = (b ∷ p) ∷ ps
-
 -- a text cut at every byte c: one piece more than there are such bytes
 abbrev pub pieces : ℕ → List ℕ → List (List ℕ)
-pieces c [] = [] ∷ []
-pieces c (b ∷ bs) = cond (b == c) ([] ∷ pieces c bs) (onto b (pieces c bs))
+pieces c text = slice_split (λ b. b == c) text
 
 -- the pieces that are not empty
 abbrev pub filled : List (List ℕ) → List (List ℕ)
-filled [] = []
-filled ([] ∷ ps) = filled ps
-filled ((b ∷ bs) ∷ ps) = (b ∷ bs) ∷ filled ps
+filled ps = filter (λ p. not (length p == 0)) ps
 
 -- the words of a line, with spaces between them
 abbrev pub words : List ℕ → List (List ℕ)
@@ -32,8 +25,7 @@ abbrev pub digit : ℕ → Bool
 digit c = nat_le 48 c && nat_le c 57
 
 abbrev pub digits : List ℕ → Bool
-digits [] = true
-digits (c ∷ cs) = digit c && digits cs
+digits w = list_all digit w
 
 -- the number that decimal digits write: each digit times the power of ten of its place
 abbrev pub value : List ℕ → ℕ
@@ -44,26 +36,38 @@ value (c ∷ cs) = (c - 48) * 10 ^ length cs + value cs
 abbrev pub numeral : List ℕ → Bool
 numeral w = nat_lt 0 (length w) && digits w
 
-abbrev pub bounded : ℕ → ℕ → Result ℕ Wrong
-bounded most n = cond (nat_le n most) (Ok n) (Err TooLarge)
+-- a number that is at most `most`, as a type holds it
+abbrev pub bounded : {A : Type 0} → (ℕ → A) → ℕ → ℕ → Result A Wrong
+bounded held most n = cond (nat_le n most) (Ok (held n)) (Err TooLarge)
+
+unfoldable pub number_of : {A : Type 0} → (ℕ → A) → ℕ → List ℕ → Result A Wrong
+number_of held most w = cond (numeral w) (bounded held most (value w)) (Err NotNumber)
 
 -- a text as a decimal number that is at most `most`
-unfoldable pub decimal_of : ℕ → List ℕ → Result ℕ Wrong
-decimal_of most w = cond (numeral w) (bounded most (value w)) (Err NotNumber)
+abbrev pub decimal_of : ℕ → List ℕ → Result ℕ Wrong
+decimal_of most w = number_of (λ n. n) most w
 
 -- 0 to 9, a to f, A to F
 abbrev pub hex : ℕ → Bool
 hex c = digit c || (nat_le 97 c && nat_le c 102) || (nat_le 65 c && nat_le c 70)
 
 abbrev pub hexes : List ℕ → Bool
-hexes [] = true
-hexes (c ∷ cs) = hex c && hexes cs
+hexes w = list_all hex w
 
 abbrev pub hex_value : ℕ → ℕ
 hex_value c = cond (nat_le 97 c) (c - 87) (cond (nat_le 65 c) (c - 55) (c - 48))
 
 abbrev pub hex_of : ℕ → Result ℕ Wrong
 hex_of c = cond (hex c) (Ok (hex_value c)) (Err NotHex)
+
+-- what was read, or 0
+abbrev pub or_zero : Result ℕ Wrong → ℕ
+or_zero (Ok number) = number
+or_zero (Err what) = 0
+
+-- the byte that two hex digits write, the high one first
+abbrev pub byte_of : ℕ → ℕ → ℕ
+byte_of high low = 16 * or_zero (hex_of high) + or_zero (hex_of low)
 
 -- two hex digits to a byte, the high one first
 abbrev pub hex_bytes : List ℕ → List ℕ

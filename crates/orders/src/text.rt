@@ -1,94 +1,51 @@
 // Lines cut into words, and words read as numbers and seeds.
-ghost use Rattle.std.specs.Prelude.{◌≡◌, ◌+◌, ◌*◌, ◌^◌, ◌<◌, ◌≤◌, min, true, not, [], length, IfOk, ◌==◌, slice_index_or};
-ghost use Rattle.std.specs.List.{prefix_len};
-ghost use Rattle.orders.specs.Text.{pieces, words, nth, digit, digits, numeral, value, bounded, decimal_of};
-ghost use Rattle.orders.specs.Text.{hex, hexes, hex_value, hex_of, hex_bytes, HexBytes, seed_from};
+ghost use Rattle.std.specs.Prelude.{◌≡◌, ◌+◌, ◌*◌, ◌^◌, ◌<◌, ◌≤◌, min, true, [], length, IfOk, slice_index_or};
+ghost use Rattle.orders.specs.Text.{pieces, words, nth, digits, numeral, value, decimal_of, number_of};
+ghost use Rattle.orders.specs.Text.{hexes, hex_of, or_zero, byte_of, hex_bytes, HexBytes, seed_from};
 
+use crate::number::Number;
 use crate::types::Wrong;
 use expander::Seed;
-
-// How many bytes come before the first `by`.
-fn run(text: &[u8], by: u8) -> usize
-    ensures count { result ≡ prefix_len (λ b. not (b == by)) text.now }
-    ensures within { result ≤ length text.now }
-{
-    for (i, b) in text.iter().enumerate() {
-        if *b == by {
-            return i;
-        }
-    }
-    text.len()
-}
+use std::array;
 
 // How many pieces a text has, cut at every `by`.
 pub fn pieces_of(text: &[u8], by: u8) -> usize
     ensures { result ≡ length (pieces by text.now) }
 {
-    let mut n: usize = 1;
-    for b in text {
-        if *b == by {
-            n += 1;
-        }
-    }
-    n
+    text.split(|b| *b == by).count()
 }
 
 // Piece number `k`, counted from 0; empty where there is none.
 pub fn piece_at(text: &[u8], by: u8, k: usize) -> &[u8]
     ensures { result.now ≡ slice_index_or (pieces by text.now) k [] }
 {
-    let mut rest = text;
-    let mut left = k;
-    while left > 0 {
-        let end = run(rest, by);
-        if end >= rest.len() {
-            return &rest[end..];
-        }
-        rest = &rest[end + 1..];
-        left -= 1;
-    }
-    let end = run(rest, by);
-    &rest[0..end]
+    text.split(|b| *b == by).nth(k).unwrap_or(&[])
 }
 
 // Word number `n` of a line, counted from 1; empty where there is none.
 pub fn word_at(line: &[u8], n: usize) -> &[u8]
     ensures { result.now ≡ nth (words line.now) n }
 {
-    let mut rest = line;
-    let mut left = n;
-    while left > 0 {
-        let end = run(rest, b' ');
-        if end > 0 {
-            left -= 1;
-            if left == 0 {
-                return &rest[0..end];
-            }
-        }
-        if end >= rest.len() {
-            return &rest[end..];
-        }
-        rest = &rest[end + 1..];
+    if n == 0 {
+        return &[];
     }
-    &rest[0..0]
+    line.split(|b| *b == b' ')
+        .filter(|word| !word.is_empty())
+        .nth(n - 1)
+        .unwrap_or(&[])
 }
 
-fn is_digit(b: u8) -> bool
-    ensures { result ≡ digit b }
+fn all_digits(word: &[u8]) -> bool
+    ensures { result ≡ digits word.now }
 {
-    b'0' <= b && b <= b'9'
+    word.iter().all(|b| b.is_ascii_digit())
 }
 
 // Whether a word is one or more digits.
 fn is_numeral(word: &[u8]) -> bool
     ensures { result ≡ numeral word.now }
 {
-    for b in word {
-        if !is_digit(*b) {
-            return false;
-        }
-    }
-    word.len() > 0
+    !word.is_empty() && all_digits(word)
 }
 
 // The number that digits write, or `top` where it is larger.
@@ -103,17 +60,6 @@ fn value_of(word: &[u8], top: u128) -> u128
     sum
 }
 
-fn at_most(n: u128, most: u64) -> Result<u64, Wrong>
-    ensures is { result ≡ bounded most n }
-    ensures small { IfOk result (λ m. m ≤ most) }
-{
-    if n <= most as u128 {
-        Ok(n as u64)
-    } else {
-        Err(Wrong::TooLarge)
-    }
-}
-
 // A word as a decimal number that is at most `most`.
 pub fn decimal(word: &[u8], most: u64) -> Result<u64, Wrong>
     ensures is { result ≡ decimal_of most word.now }
@@ -122,49 +68,51 @@ pub fn decimal(word: &[u8], most: u64) -> Result<u64, Wrong>
     if !is_numeral(word) {
         return Err(Wrong::NotNumber);
     }
-    at_most(value_of(word, most as u128 + 1), most)
-}
-
-fn is_hex(b: u8) -> bool
-    ensures { result ≡ hex b }
-{
-    is_digit(b) || b'a' <= b && b <= b'f' || b'A' <= b && b <= b'F'
-}
-
-fn hex_value(b: u8) -> u8
-    requires { hex b ≡ true }
-    ensures is { result ≡ hex_value b }
-    ensures small { result < 16 }
-{
-    if b >= b'a' {
-        b - b'a' + 10
-    } else if b >= b'A' {
-        b - b'A' + 10
+    let n = value_of(word, most as u128 + 1);
+    if n <= most as u128 {
+        Ok(n as u64)
     } else {
-        b - b'0'
+        Err(Wrong::TooLarge)
     }
+}
+
+// A word as a decimal number of a type.
+pub fn number_of<N: Number>(word: &[u8]) -> Result<N, Wrong>
+    ensures { result ≡ number_of N.held N.MOST word.now }
+{
+    let number = decimal(word, N::MOST)?;
+    Ok(N::hold(number))
 }
 
 // A hex digit, in either case.
 pub fn hex_digit(b: u8) -> Result<u8, Wrong>
     ensures { result ≡ hex_of b }
 {
-    if is_hex(b) {
-        Ok(hex_value(b))
-    } else {
-        Err(Wrong::NotHex)
+    match (b as char).to_digit(16) {
+        Some(digit) => Ok(digit as u8),
+        None => Err(Wrong::NotHex),
     }
+}
+
+// A hex digit's value, 0 for any other byte.
+fn digit_or_zero(b: u8) -> u8
+    ensures is { result ≡ or_zero (hex_of b) }
+    ensures small { result < 16 }
+{
+    hex_digit(b).unwrap_or(0)
+}
+
+// The byte that two hex digits write, the high one first.
+pub fn hex_pair(high: u8, low: u8) -> u8
+    ensures { result ≡ byte_of high low }
+{
+    16 * digit_or_zero(high) + digit_or_zero(low)
 }
 
 fn all_hex(word: &[u8]) -> bool
     ensures { result ≡ hexes word.now }
 {
-    for b in word {
-        if !is_hex(*b) {
-            return false;
-        }
-    }
-    true
+    word.iter().all(|b| b.is_ascii_hexdigit())
 }
 
 // The bytes that 32 hex digits write, the high digit of each first.
@@ -172,11 +120,7 @@ fn hex_bytes(word: &[u8]) -> [u8; 16]
     requires { (length word.now ≡ 32) × (hexes word.now ≡ true) }
     ensures { result ≡ hex_bytes word.now }
 {
-    let mut bytes = [0; 16];
-    for i in 0..16 {
-        bytes[i] = 16 * hex_value(word[2 * i]) + hex_value(word[2 * i + 1]);
-    }
-    bytes
+    array::from_fn(|i| hex_pair(word[2 * i], word[2 * i + 1]))
 }
 
 // 32 hex digits as a seed.

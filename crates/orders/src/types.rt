@@ -5,6 +5,8 @@ ghost use Rattle.orders.specs.Messages.{wrong_text, fault_text};
 use expander::Seed;
 use std::fmt;
 
+// Stays: `Nothing` and not an Option of an order: the empty line is written and read back as every other order is,
+// and a match on what was read has one level less.
 #[derive(Clone, Copy)]
 pub enum Order {
     Nothing,

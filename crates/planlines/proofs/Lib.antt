@@ -1,1 +1,2 @@
 pub mod ReadAll
+pub mod Yielded

@@ -2,10 +2,10 @@
 use orders::Kind;
 use plan::PlanRow;
 
+// Stays: a count of numbers and not the numbers: a list needs memory, which can run out where reading a line cannot
+// fail so; and a part of the line would bring its place in memory into what a line says.
 #[derive(Clone, Copy)]
 pub enum PlanLine {
-    // None of the lines below.
-    Other,
     // Begins a plan; word 3 has so many owners.
     Begin {
         width: u8,
