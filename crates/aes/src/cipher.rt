@@ -41,7 +41,7 @@ impl RoundKeys {
     pub(crate) fn encrypt_number(&self, j: u8) -> [u8; 16]
         ensures { result ≡ cipher (key_of self.now) (number j) }
     {
-        self.encrypt_block(Block(0, 0, 0, j as u32)).to_bytes()
+        self.encrypt_block(Block([0, 0, 0, j as u32])).to_bytes()
     }
 
     pub fn encrypt(&self, block: &[u8; 16]) -> [u8; 16]

@@ -64,6 +64,7 @@ impl Expander for Aes128 {
         let b = keys.encrypt_number(6);
         let c = keys.encrypt_number(7);
         let d = keys.encrypt_number(8);
+        // Stays: two words of each of four blocks; a loop over blocks and halves would be no plainer.
         [
             long_at(&a, 0),
             long_at(&a, 8),

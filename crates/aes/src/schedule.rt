@@ -23,11 +23,12 @@ fn schedule_core(w: u32, constant: u8) -> u32
 fn next_round_key(key: Block, constant: u8) -> Block
     ensures { block_bytes result ≡ next_round_key constant (block_bytes key) }
 {
-    let a = key.0 ^ schedule_core(key.3, constant);
-    let b = key.1 ^ a;
-    let c = key.2 ^ b;
-    let d = key.3 ^ c;
-    Block(a, b, c, d)
+    let [k, l, m, n] = key.0;
+    let a = k ^ schedule_core(n, constant);
+    let b = l ^ a;
+    let c = m ^ b;
+    let d = n ^ c;
+    Block([a, b, c, d])
 }
 
 pub fn expanded(key: Block) -> [Block; 11]

@@ -14,6 +14,7 @@ fn word_at(bytes: &[u8], i: usize) -> u32
     u32::from_le_bytes(bytes_at(bytes, i))
 }
 
+// Stays: the sixteen words as the standard lists them; a loop would be no plainer.
 fn start(key: &[u8; 32], counter: u32, nonce: &[u8; 12]) -> [u32; 16]
     ensures { result ≡ start key.now counter nonce.now }
 {

@@ -1,4 +1,4 @@
-use Rattle.std.proofs.Common.{◌≡◌, ℕ, ◌+◌, ◌<◌, refl, ap, ◌∙◌, arith, rules, take, drop, length, get_or, length-take, length-drop}
+use Rattle.std.proofs.Common.{◌≡◌, ℕ, ◌+◌, ◌<◌, refl, ap, ◌∙◌, arith, rules, take, drop, length, get_or, [], length-take, length-drop}
 use Rattle.std.proofs.lemmas.List.{get_or-take}
 use Rattle.std.proofs.lemmas.Grind.{get_or_after_one}
 use Rattle.aes.specs.declared.block.Block.{Block}
@@ -19,7 +19,7 @@ loop-key-preserved c =
     let part = take 9 (drop 1 self.keys) in
     let in_part : i < 9 = omega (arith, c.loop-key-test.true, length-take 9 (drop 1 self.keys)) in
     let place : 1 + i ≡ i + 1 = omega arith in
-    let zero : Block = record { 0 = 0; 1 = 0; 2 = 0; 3 = 0 } in
+    let zero : Block = record { 0 = [] } in
     let key : block_bytes (get_or part i zero) ≡ round_key (i + 1) (key_of self) =
     ap block_bytes (get_or-take 9 (drop 1 self.keys) i zero in_part ∙ get_or_after_one self.keys i zero ∙ ap (λ (n : ℕ). get_or self.keys n zero) place)
     ∙ self.scheduled (i + 1) (omega arith) in

@@ -9,4 +9,4 @@ returns c =
     let self = c.args.self.now in
     let made = c.map.ensures.items in
     fill_by_all (λ k. round_key k (key_of self)) c.map.result 11 [] made.long
-    (λ k lt. (made.at k (record { 0 = 0; 1 = 0; 2 = 0; 3 = 0 }) [] lt).2.met ∙ self.scheduled k lt)
+    (λ k lt. (made.at k (record { 0 = [] }) [] lt).2.met ∙ self.scheduled k lt)
