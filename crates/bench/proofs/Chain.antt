@@ -1,5 +1,5 @@
 -- One level, from what the calls give.
-use Rattle.std.proofs.Common.{◌≡◌, ℕ, zero, suc, ◌+◌, List, get_or, refl, sym, ap, ◌∙◌, add-zero, add-one, zero-add, arith}
+use Rattle.std.proofs.Common.{◌≡◌, ℕ, zero, suc, ◌+◌, List, get_or, refl, sym, ap, ◌∙◌, add-zero, zero-add, arith}
 use native.Mathlib.Nat.{sub-zero}
 use Rattle.std.specs.List.{fold, range_with_len}
 use Rattle.std.specs.Fn.{Called}
@@ -14,8 +14,7 @@ use Rattle.expander.specs.Seeds.{xor_seeds}
 use Rattle.expander.specs.declared.Seed.{Seed}
 use Rattle.expander.specs.declared.Branches.{Branches}
 use Rattle.gatekeys.specs.Random.{root_of}
-use Rattle.group.specs.Groups.{OutputGroup}
-use Rattle.bench.specs.Workloads.{level, sum_of}
+use Rattle.bench.specs.Workloads.{level}
 
 abbrev front : List ℕ → Seed
 front words = root_of (get_or words 0 0) (get_or words 1 0)
@@ -26,11 +25,6 @@ level_of x seed b words r s eb ew er es =
     es
     ∙ ap (xor_seeds b.left.seed) (er ∙ ap front ew)
     ∙ ap (λ (b : Branches). xor_seeds b.left.seed (front (x.draw b.left.value))) eb
-
--- one more summand
-pub added : {M : Type 0} (g : OutputGroup M) (f : ℕ → M) (i : ℕ) (a b c : M)
-    → a ≡ sum_of g f i → b ≡ f i → c ≡ g.sum a b → c ≡ sum_of g f (i + 1)
-added g f i a b c ea eb ec = rw add-one (ec ∙ ap (λ t. g.sum t b) ea ∙ ap (λ t. g.sum (sum_of g f i) t) eb)
 
 -- what a fold over `0..n` comes to, where each turn takes R at k to R at k + 1
 module _ {M : Type 0} (h : M → ℕ → M) (R : ℕ → M) (next : (k : ℕ) → h (R k) k ≡ R (k + 1)) where
