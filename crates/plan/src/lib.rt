@@ -12,10 +12,10 @@ mod lengths;
 
 pub use asking::check_plan;
 pub use checked::CheckedPlan;
-pub use lengths::compared_long;
 pub use gates::{
     Gate, GateBody, GateHead, GateKind, UnknownKind, Wires, below, interval_fits, shift_fits,
 };
+pub use lengths::compared_long;
 
 // One gate of a plan, and whether its wire is shown.
 #[derive(Clone, Copy)]

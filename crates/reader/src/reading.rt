@@ -20,7 +20,7 @@ pub fn header_in(book: &[u8]) -> BookHeader
 }
 
 // The eight bytes of wire k in the contents, where they are all there.
-fn entry_in(book: &[u8], k: usize) -> Option<&[u8]>
+pub(crate) fn entry_in(book: &[u8], k: usize) -> Option<&[u8]>
     ensures { MatchOption result (length book.now < 24 + 8 * k)
         (λ entry. (24 + 8 * k ≤ length book.now) × (entry.now ≡ slice_range book.now (16 + 8 * k) (24 + 8 * k))) }
 {
