@@ -1,7 +1,5 @@
-use Rattle.std.proofs.Common.{min, get_or, ap, ◌∙◌, arith}
-use Rattle.std.proofs.lemmas.List.{take_all}
-use Rattle.orders.specs.Text.{value}
-use Rattle.orders.proofs.Numbers.{digit_at, digit_range, value_more}
+use Rattle.std.proofs.Common.{arith}
+use Rattle.orders.proofs.Numbers.{value_more}
 use Rattle.orders.proofs.text.value_of.Goals as goal
 
 pub loop-b-preserved : goal.loop-b-preserved
