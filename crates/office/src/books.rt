@@ -4,7 +4,7 @@ ghost use Rattle.dealer.specs.Book.{dealt};
 ghost use Rattle.draft.specs.Drafts.{view};
 ghost use Rattle.office.specs.Dealing.{order_of};
 
-use crate::wires::print_wire;
+use crate::wires::Wire;
 use bodies::{number_in, part_of};
 use console::{Stop, Task};
 use draft::Draft;
@@ -31,18 +31,19 @@ fn print_book(rt: &HostRuntime, book: &[u8], whole: bool) -> Result<(), Stop> {
         let offset = number_in(book, 16 + 8 * k);
         let bytes = body.len();
         print!(rt; "wire {k} at {offset} bytes {bytes} ")?;
-        print_wire(rt, width, body, read_wire(book, k), whole)?;
+        let wire = Wire {
+            rt,
+            width,
+            body,
+            whole,
+        };
+        wire.print(read_wire(book, k))?;
     }
     Ok(())
 }
 
 // Says what is in a book, unless it is refused at a box with an expander of this kind.
-pub fn read_and_print(
-    rt: &HostRuntime,
-    kind: u8,
-    book: &[u8],
-    whole: bool,
-) -> Result<(), Stop> {
+pub fn read_and_print(rt: &HostRuntime, kind: u8, book: &[u8], whole: bool) -> Result<(), Stop> {
     check_book(kind, book)?;
     print_book(rt, book, whole)
 }

@@ -60,18 +60,8 @@ fn print_product_key(rt: &HostRuntime, key: &[u8]) -> Result<(), Stop> {
 pub fn print_key(rt: &HostRuntime, width: u8, gate: GateHead, key: &[u8]) -> Result<(), Stop> {
     match gate {
         GateHead::Product { .. } => print_product_key(rt, key),
-        GateHead::Piece { .. } => print_interval_key::<Quad>(
-            rt,
-            width,
-            key,
-            &mut [blank(); 32],
-        ),
-        GateHead::Flag { .. } => print_interval_key::<Flags>(
-            rt,
-            width,
-            key,
-            &mut [blank(); 32],
-        ),
+        GateHead::Piece { .. } => print_interval_key::<Quad>(rt, width, key, &mut [blank(); 32]),
+        GateHead::Flag { .. } => print_interval_key::<Flags>(rt, width, key, &mut [blank(); 32]),
         GateHead::Shift { s, .. } | GateHead::SignedShift { s, .. } => print_shift_key(
             rt, width, s, key,
         ),

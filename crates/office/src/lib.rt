@@ -45,7 +45,7 @@ impl Office {
     // Says what a line asks for, where it can. What needs a plan cannot where none was begun.
     fn answer(&self, rt: &HostRuntime, line: &[u8], order: PlanLine) -> Result<(), Stop> {
         match order {
-            PlanLine::Other | PlanLine::Begin { .. } => Ok(()),
+            PlanLine::Begin { .. } => Ok(()),
             PlanLine::Book { kind, bytes } => book_line(rt, kind, word_at(line, 3), bytes),
             _ if !self.draft.is_begun() => Err(Stop::Cannot("no plan was begun")),
             PlanLine::Gate(_) | PlanLine::Words { .. } => Ok(()),
@@ -77,8 +77,8 @@ impl Office {
     {
         match parse_plan_line(line) {
             Err(fault) => Stop::Fault(fault).say(rt),
-            Ok(PlanLine::Other) => self.session.perform(rt, line),
-            Ok(order) => {
+            Ok(None) => self.session.perform(rt, line),
+            Ok(Some(order)) => {
                 self.draft.follow(line, order)?;
                 self.answer(rt, line, order).or_else(|stop| stop.say(rt))
             }

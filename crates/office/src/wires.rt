@@ -58,43 +58,42 @@ fn print_input(rt: &HostRuntime, owner: u8, mask: Option<u32>) -> io::Result<()>
     }
 }
 
-fn print_gate(
-    rt: &HostRuntime,
-    width: u8,
-    body: &[u8],
-    shown: Option<u32>,
-    gate: GateHead,
-    whole: bool,
-) -> Result<(), Stop> {
-    let key = key_in(body, gate);
-    let named = Named(gate);
-    let seen = Seen(shown);
-    let parameters = Parameters(gate);
-    print!(rt; "{named} {seen}{parameters}")?;
-    if key.is_empty() {
-        println!(rt)?;
-        return Ok(());
-    }
-    let long = key.len();
-    println!(rt; " key {long}")?;
-    if whole {
-        print_key(rt, width, gate, key)?;
-    }
-    Ok(())
+// One wire of a book: the book's width, the wire's body, and whether the lines of its key are said too.
+#[derive(Clone, Copy)]
+pub struct Wire<'a> {
+    pub rt: &'a HostRuntime,
+    pub width: u8,
+    pub body: &'a [u8],
+    pub whole: bool,
 }
 
-// The rest of a wire's line, and the lines of its key.
-pub fn print_wire(
-    rt: &HostRuntime,
-    width: u8,
-    body: &[u8],
-    wire: Option<WireBody>,
-    whole: bool,
-) -> Result<(), Stop> {
-    match wire {
-        None => println!(rt; "nothing known")?,
-        Some(WireBody::Input { owner, mask }) => print_input(rt, owner, mask)?,
-        Some(WireBody::Gate { shown, gate }) => print_gate(rt, width, body, shown, gate, whole)?,
+impl Wire<'_> {
+    fn print_gate(self, shown: Option<u32>, gate: GateHead) -> Result<(), Stop> {
+        let rt = self.rt;
+        let key = key_in(self.body, gate);
+        let named = Named(gate);
+        let seen = Seen(shown);
+        let parameters = Parameters(gate);
+        print!(rt; "{named} {seen}{parameters}")?;
+        if key.is_empty() {
+            println!(rt)?;
+            return Ok(());
+        }
+        let long = key.len();
+        println!(rt; " key {long}")?;
+        if self.whole {
+            print_key(rt, self.width, gate, key)?;
+        }
+        Ok(())
     }
-    Ok(())
+
+    // The rest of the wire's line, and the lines of its key.
+    pub fn print(self, says: Option<WireBody>) -> Result<(), Stop> {
+        match says {
+            None => println!(self.rt; "nothing known")?,
+            Some(WireBody::Input { owner, mask }) => print_input(self.rt, owner, mask)?,
+            Some(WireBody::Gate { shown, gate }) => self.print_gate(shown, gate)?,
+        }
+        Ok(())
+    }
 }

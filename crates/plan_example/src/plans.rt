@@ -18,6 +18,7 @@ impl<'a> Example<'a> {
     }
 
     // Says something, and carries out lines.
+    // Stays: `wukraslo` does the same with a session; a trait for both would be longer than this loop.
     fn show(&mut self, text: &str, lines: &[&str]) -> Result<()> {
         println!(self.rt; "{text}")?;
         for line in lines {

@@ -65,6 +65,7 @@ impl Example<'_> {
     }
 
     // Says something, and carries out lines.
+    // Stays: `plan_example` does the same with an office; a trait for both would be longer than this loop.
     fn show(&mut self, text: &str, lines: &[&str]) -> Result<()> {
         println!(self.rt; "{text}")?;
         for line in lines {
