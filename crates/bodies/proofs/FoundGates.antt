@@ -8,10 +8,11 @@ use Rattle.layout.specs.Bytes.{number_at}
 use Rattle.layout.specs.Keys.{flag_bytes, quad_bytes}
 use Rattle.layout.specs.Wires as wire
 use Rattle.layout.specs.Wires.{Gate, Wire, kind, first, second, parameter_bytes, gate_key_bytes, wire_bytes, gate, input}
-use Rattle.bodies.specs.declared.GateHead.{GateHead}
-use Rattle.bodies.specs.declared.GateHead.TheVariants.{Sum, Scale, Product, Piece, Flag, Shift, SignedShift, Xor}
+use Rattle.plan.specs.Gates as gate_of
+use Rattle.plan.specs.Gates.{GateHead, number_of}
+use Rattle.plan.specs.declared.gates.Gate.TheVariants.{Sum, Scale, Product, Piece, Flag, Shift, SignedShift, Xor}
 use Rattle.bodies.specs.Parts.{Bytes}
-use Rattle.bodies.specs.Heads.{lone, head_of, gives_flag, head_fits, parameters_long, compared_long, key_long}
+use Rattle.bodies.specs.Heads.{lone, head_of, gives_flag, numbers_fit, parameters_long, compared_long, key_long}
 use Rattle.bodies.specs.Bodies.{shown_in, rest_in, head_in, rows_fit, shift_key_fits, key_fits, mask_fits, rest_fits, gate_fits, input_fits}
 use Rattle.bodies.specs.Allowed.{head, key_allowed, mask_allowed, GateAllowed, input_allowed}
 use Rattle.bodies.proofs.Numbers.{below_tells}
@@ -20,21 +21,14 @@ use Rattle.bodies.proofs.FoundKeys.{ShiftAt, interval_found, shift_found}
 
 -- the kind byte and the wires of a head
 abbrev kind_of : GateHead → ℕ
-kind_of (Sum a b) = 1
-kind_of (Scale a c d) = 2
-kind_of (Product a b) = 3
-kind_of (Piece a p q) = 4
-kind_of (Flag a p q) = 5
-kind_of (Shift a s) = 6
-kind_of (SignedShift a s) = 7
-kind_of (Xor a b) = 8
+kind_of h = number_of (gate_of.kind_of h)
 
 abbrev first_of : GateHead → ℕ
 first_of (Sum a b) = a
 first_of (Scale a c d) = a
 first_of (Product a b) = a
-first_of (Piece a p q) = a
-first_of (Flag a p q) = a
+first_of (Piece a p q _) = a
+first_of (Flag a p q _) = a
 first_of (Shift a s) = a
 first_of (SignedShift a s) = a
 first_of (Xor a b) = a
@@ -43,8 +37,8 @@ abbrev second_of : GateHead → ℕ
 second_of (Sum a b) = b
 second_of (Scale a c d) = 0
 second_of (Product a b) = b
-second_of (Piece a p q) = 0
-second_of (Flag a p q) = 0
+second_of (Piece a p q _) = 0
+second_of (Flag a p q _) = 0
 second_of (Shift a s) = 0
 second_of (SignedShift a s) = 0
 second_of (Xor a b) = b
@@ -54,8 +48,8 @@ abbrev Parameters : List ℕ → GateHead → Type 0
 Parameters rest (Sum a b) = Unit {0}
 Parameters rest (Scale a c d) = (number_at rest 0 ≡ c) × (number_at rest 4 ≡ d)
 Parameters rest (Product a b) = Unit {0}
-Parameters rest (Piece a p q) = (number_at rest 0 ≡ p) × (number_at rest 4 ≡ q)
-Parameters rest (Flag a p q) = (number_at rest 0 ≡ p) × (number_at rest 4 ≡ q)
+Parameters rest (Piece a p q _) = (number_at rest 0 ≡ p) × (number_at rest 4 ≡ q)
+Parameters rest (Flag a p q _) = (number_at rest 0 ≡ p) × (number_at rest 4 ≡ q)
 Parameters rest (Shift a s) = get_or rest 0 0 ≡ s
 Parameters rest (SignedShift a s) = get_or rest 0 0 ≡ s
 Parameters rest (Xor a b) = Unit {0}
@@ -103,11 +97,11 @@ module _ (v a b : ℕ) (rest : List ℕ) (h : GateHead) where
                   elim (or_else 3 (Some (Product a b)) _ e3) [
                     | inl p ↦ two (Product a b) p.0 refl refl tt p.1
                     | inr e4 ↦
-                        elim (or_else 4 (lone b (Piece a (number_at rest 0) (number_at rest 4))) _ e4) [
-                          | inl p ↦ one (Piece a (number_at rest 0) (number_at rest 4)) p.0 refl refl (refl, refl) p.1
+                        elim (or_else 4 (lone b (Piece a (number_at rest 0) (number_at rest 4) tt)) _ e4) [
+                          | inl p ↦ one (Piece a (number_at rest 0) (number_at rest 4) tt) p.0 refl refl (refl, refl) p.1
                           | inr e5 ↦
-                              elim (or_else 5 (lone b (Flag a (number_at rest 0) (number_at rest 4))) _ e5) [
-                                | inl p ↦ one (Flag a (number_at rest 0) (number_at rest 4)) p.0 refl refl (refl, refl) p.1
+                              elim (or_else 5 (lone b (Flag a (number_at rest 0) (number_at rest 4) tt)) _ e5) [
+                                | inl p ↦ one (Flag a (number_at rest 0) (number_at rest 4) tt) p.0 refl refl (refl, refl) p.1
                                 | inr e6 ↦
                                     elim (or_else 6 (lone b (Shift a (get_or rest 0 0))) _ e6) [
                                       | inl p ↦ one (Shift a (get_or rest 0 0)) p.0 refl refl refl p.1
@@ -190,7 +184,7 @@ module _ (n : ℕ) (rest : List ℕ) (f : Bytes rest) where
         is_rest = sym (r ∙ ap (λ t. four_bytes x ++ (four_bytes y ++ t)) e);
         key = (below_tells n x t.0, below_tells n y u.0, below_tells n z u.1);
       }
-  found_in (Piece a p' q) p l k =
+  found_in (Piece a p' q _) p l k =
       let r = numbers_split rest p' q (omega arith) f p.0 p.1 in
       let xs = drop 8 rest in
       let o = number_at xs (compared_long 32 n + 64) in
@@ -205,7 +199,7 @@ module _ (n : ℕ) (rest : List ℕ) (f : Bytes rest) where
         is_rest = sym (r ∙ ap (λ t. four_bytes p' ++ (four_bytes q ++ t)) (sym i.is));
         key = (i.count, below_tells n o t.1);
       }
-  found_in (Flag a p' q) p l k =
+  found_in (Flag a p' q _) p l k =
       let r = numbers_split rest p' q (omega arith) f p.0 p.1 in
       let xs = drop 8 rest in
       let o = number_at xs (compared_long 4 n + 8) in
@@ -271,8 +265,8 @@ module _ (n v a b s : ℕ) (tail : List ℕ) (f : Bytes (v ∷ a ∷ b ∷ s ∷
   from_head shown (Some h) rest g small e eh ei t =
       let long = eqb (length rest) (parameters_long h + key_long n h) in
       let kf = key_fits n h (drop (parameters_long h) rest) in
-      let t1 = and_parts (mask_fits n (gives_flag h) shown) (head_fits n h && (long && kf)) t in
-      let t2 = and_parts (head_fits n h) (long && kf) t1.1 in
+      let t1 = and_parts (mask_fits n (gives_flag h) shown) (numbers_fit n h && (long && kf)) t in
+      let t2 = and_parts (numbers_fit n h) (long && kf) t1.1 in
       let t3 = and_parts long kf t2.1 in
       let sp = spelt v a b rest h eh in
       let r = found_in n rest g h sp.parameters (eqb-true (length rest) (parameters_long h + key_long n h) t3.0) t3.1 in
@@ -284,7 +278,7 @@ module _ (n v a b s : ℕ) (tail : List ℕ) (f : Bytes (v ∷ a ∷ b ∷ s ∷
         found = r.found;
         allowed = record {
           mask = subst (λ x. mask_allowed n (gives_flag x) shown) (sym r.is_head) (masked (gives_flag h) shown small t1.0);
-          fields = ap (head_fits n) r.is_head ∙ t2.0;
+          fields = ap (numbers_fit n) r.is_head ∙ t2.0;
           key = r.key;
         };
         told = ei ∙ ap Some (sym r.is_head);

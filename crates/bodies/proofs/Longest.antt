@@ -3,20 +3,20 @@ use Rattle.std.proofs.Common.{◌≡◌, ℕ, ◌+◌, ◌*◌, ◌<◌, ◌≤�
 use Rattle.std.proofs.lemmas.Bool.{and_parts, false≢true, eqb-true, leb-true, ltb-true}
 use Rattle.plan.specs.Questions.{below, shift_fits}
 use Rattle.layout.specs.Bytes.{number_at}
-use Rattle.bodies.specs.declared.GateHead.{GateHead}
-use Rattle.bodies.specs.declared.GateHead.TheVariants.{Sum, Scale, Product, Piece, Flag, Shift, SignedShift, Xor}
-use Rattle.bodies.specs.Heads.{gives_flag, head_fits, parameters_long, key_long}
+use Rattle.plan.specs.Gates.{GateHead}
+use Rattle.plan.specs.declared.gates.Gate.TheVariants.{Sum, Scale, Product, Piece, Flag, Shift, SignedShift, Xor}
+use Rattle.bodies.specs.Heads.{gives_flag, numbers_fit, parameters_long, key_long}
 use Rattle.bodies.specs.Bodies.{shown_in, rest_in, head_in, key_fits, mask_fits, rest_fits, gate_fits, input_fits}
 
 shift_short : (n s : ℕ) → shift_fits n s ≡ true → s < n
 shift_short n s h = let t = (and_parts (leb 1 s) (ltb s n) h).1 in ltb-true s n t
 
-longest : (n : ℕ) (g : GateHead) → n ≤ 32 → head_fits n g ≡ true → parameters_long g + key_long n g ≤ 1692
+longest : (n : ℕ) (g : GateHead) → n ≤ 32 → numbers_fit n g ≡ true → parameters_long g + key_long n g ≤ 1692
 longest n (Sum a b) w h = omega arith
 longest n (Scale a c d) w h = omega arith
 longest n (Product a b) w h = omega arith
-longest n (Piece a p q) w h = omega arith
-longest n (Flag a p q) w h = omega arith
+longest n (Piece a p q _) w h = omega arith
+longest n (Flag a p q _) w h = omega arith
 longest n (Shift a s) w h = let t = shift_short n s h in omega arith
 longest n (SignedShift a s) w h = let t = shift_short n s h in omega arith
 longest n (Xor a b) w h = omega arith
@@ -26,8 +26,8 @@ rest_short n mask None rest w h = absurd (false≢true h)
 rest_short n mask (Some g) rest w h =
     let long = eqb (length rest) (parameters_long g + key_long n g) in
     let key = key_fits n g (drop (parameters_long g) rest) in
-    let a = and_parts (mask_fits n (gives_flag g) mask) (head_fits n g && (long && key)) h in
-    let b = and_parts (head_fits n g) (long && key) a.1 in
+    let a = and_parts (mask_fits n (gives_flag g) mask) (numbers_fit n g && (long && key)) h in
+    let b = and_parts (numbers_fit n g) (long && key) a.1 in
     let c = and_parts long key b.1 in
     omega (arith, longest n g w b.0, eqb-true (length rest) (parameters_long g + key_long n g) c.0)
 

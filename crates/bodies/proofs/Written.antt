@@ -10,9 +10,9 @@ use Rattle.layout.specs.Bytes.{number_at}
 use Rattle.layout.specs.Keys.{Compared, compared_bytes, word_bytes, flag_bytes, quad_bytes}
 use Rattle.layout.specs.Wires as wire
 use Rattle.layout.specs.Wires.{Gate, kind, first, second, parameter_bytes, interval_bytes, shift_bytes, gate_key_bytes, wire_bytes, gate, input}
-use Rattle.bodies.specs.declared.GateHead.TheVariants.{Scale, Piece, Flag}
+use Rattle.plan.specs.declared.gates.Gate.TheVariants.{Scale, Piece, Flag}
 use Rattle.bodies.specs.declared.WireBody.TheVariants.{Input}
-use Rattle.bodies.specs.Heads.{head_of, gives_flag, head_fits, parameters_long, compared_long, key_long}
+use Rattle.bodies.specs.Heads.{head_of, gives_flag, numbers_fit, parameters_long, compared_long, key_long}
 use Rattle.bodies.specs.Bodies.{when, input_in, shown_in, head_in, rows_fit, shift_key_fits, key_fits, mask_fits, rest_fits, gate_fits, input_fits}
 use Rattle.bodies.specs.Allowed.{head, key_allowed, mask_allowed, GateAllowed, input_allowed}
 use Rattle.bodies.proofs.Numbers.{number_four, number_back, below_from, below_tells, small}
@@ -27,7 +27,7 @@ ends_small n p q w h =
     (omega arith, s)
 
 -- a gate's kind, wires and parameters read back
-head_back : (n : ℕ) (g : Gate) → n ≤ 32 → head_fits n (head g) ≡ true
+head_back : (n : ℕ) (g : Gate) → n ≤ 32 → numbers_fit n (head g) ≡ true
     → head_of (kind g) (first g) (second g) (parameter_bytes g ++ gate_key_bytes g) ≡ Some (head g)
 head_back n (wire.sum a b) w h = refl
 head_back n (wire.scale a c d) w h =
@@ -40,12 +40,12 @@ head_back n (wire.piece a p q k β e o) w h =
     let t = ends_small n p q w h in
     let pp = number_four p t.0 in
     let pq = number_four q t.1 in
-    λ i. Some (Piece a (pp i) (pq i))
+    λ i. Some (Piece a (pp i) (pq i) tt)
 head_back n (wire.flag a p q k β e o) w h =
     let t = ends_small n p q w h in
     let pp = number_four p t.0 in
     let pq = number_four q t.1 in
-    λ i. Some (Flag a (pp i) (pq i))
+    λ i. Some (Flag a (pp i) (pq i) tt)
 head_back n (wire.shift a s l h' r) w h = refl
 head_back n (wire.signed_shift a s l h' r) w h = refl
 head_back n (wire.xor a b) w h = refl

@@ -2,17 +2,17 @@
 use Rattle.std.specs.Prelude.{◌≡◌, ℕ, ◌^◌, ◌<◌, Bool, true, cond, length, Some, None, Option, ◌≢◌}
 use Rattle.layout.specs.Wires as wire
 use Rattle.layout.specs.Wires.{Gate}
-use Rattle.bodies.specs.declared.GateHead.{GateHead}
-use Rattle.bodies.specs.declared.GateHead.TheVariants.{Sum, Scale, Product, Piece, Flag, Shift, SignedShift, Xor}
-use Rattle.bodies.specs.Heads.{gives_flag, head_fits}
+use Rattle.plan.specs.Gates.{GateHead}
+use Rattle.plan.specs.declared.gates.Gate.TheVariants.{Sum, Scale, Product, Piece, Flag, Shift, SignedShift, Xor}
+use Rattle.bodies.specs.Heads.{gives_flag, numbers_fit}
 
 -- a gate without its key
 abbrev pub head : Gate → GateHead
 head (wire.sum a b) = Sum a b
 head (wire.scale a c d) = Scale a c d
 head (wire.product a b x y z) = Product a b
-head (wire.piece a p q k β e o) = Piece a p q
-head (wire.flag a p q k β e o) = Flag a p q
+head (wire.piece a p q k β e o) = Piece a p q tt
+head (wire.flag a p q k β e o) = Flag a p q tt
 head (wire.shift a s l h r) = Shift a s
 head (wire.signed_shift a s l h r) = SignedShift a s
 head (wire.xor a b) = Xor a b
@@ -36,7 +36,7 @@ mask_allowed n flag (Some m) = m < 2 ^ cond flag 32 n
 -- a gate at width n, but for the wires that it reads
 pub record GateAllowed (n : ℕ) (shown : Option ℕ) (g : Gate) : Type 0 where
   pub mask : mask_allowed n (gives_flag (head g)) shown
-  pub fields : head_fits n (head g) ≡ true
+  pub fields : numbers_fit n (head g) ≡ true
   pub key : key_allowed n g
 
 -- an input in the book of box b: its mask stands there exactly where b is the owner

@@ -2,11 +2,11 @@
 use Rattle.std.specs.Prelude.{ℕ, zero, suc, ◌+◌, ◌*◌, Bool, true, false, cond, ◌&&◌, List, length, drop, Some, None, Option, ◌==◌, nat_le, nat_lt, slice_index}
 use Rattle.plan.specs.Questions.{below}
 use Rattle.layout.specs.Bytes.{number_at}
-use Rattle.bodies.specs.declared.GateHead.{GateHead}
-use Rattle.bodies.specs.declared.GateHead.TheVariants.{Sum, Scale, Product, Piece, Flag, Shift, SignedShift, Xor}
+use Rattle.plan.specs.Gates.{GateHead}
+use Rattle.plan.specs.declared.gates.Gate.TheVariants.{Sum, Scale, Product, Piece, Flag, Shift, SignedShift, Xor}
 use Rattle.bodies.specs.declared.WireBody.{WireBody}
 use Rattle.bodies.specs.declared.WireBody.TheVariants.{Input, Gate}
-use Rattle.bodies.specs.Heads.{head_of, gives_flag, head_fits, parameters_long, compared_long, key_long}
+use Rattle.bodies.specs.Heads.{head_of, gives_flag, numbers_fit, parameters_long, compared_long, key_long}
 
 -- a mask where it is given
 abbrev pub when : Bool → ℕ → Option ℕ
@@ -55,8 +55,8 @@ abbrev pub key_fits : ℕ → GateHead → List ℕ → Bool
 key_fits n (Sum a b) key = true
 key_fits n (Scale a c d) key = true
 key_fits n (Product a b) key = below n (number_at key 0) && (below n (number_at key 4) && below n (number_at key 8))
-key_fits n (Piece a p q) key = rows_fit 32 key n 16 && below n (number_at key (compared_long 32 n + 64))
-key_fits n (Flag a p q) key = rows_fit 4 key n 16
+key_fits n (Piece a p q _) key = rows_fit 32 key n 16 && below n (number_at key (compared_long 32 n + 64))
+key_fits n (Flag a p q _) key = rows_fit 4 key n 16
 key_fits n (Shift a s) key = shift_key_fits n s key
 key_fits n (SignedShift a s) key = shift_key_fits n s key
 key_fits n (Xor a b) key = true
@@ -72,7 +72,7 @@ abbrev pub rest_fits : ℕ → Option ℕ → Option GateHead → List ℕ → B
 rest_fits n mask None rest = false
 rest_fits n mask (Some g) rest =
     mask_fits n (gives_flag g) mask
-    && (head_fits n g && (length rest == parameters_long g + key_long n g && key_fits n g (drop (parameters_long g) rest)))
+    && (numbers_fit n g && (length rest == parameters_long g + key_long n g && key_fits n g (drop (parameters_long g) rest)))
 
 -- is a gate's body of its layout, and are its fields allowed, but for the wires that it reads?
 abbrev pub gate_fits : ℕ → List ℕ → Bool

@@ -1,81 +1,89 @@
 // What a reader finds in bytes: numbers, parts, and what a wire's body says.
-ghost use Rattle.std.specs.Prelude.{◌≡◌, ◌^◌, ◌<◌, drop, slice_index};
+ghost use Rattle.std.specs.Prelude.{◌≡◌, drop, slice_index};
 ghost use Rattle.layout.specs.Bytes.{number_at};
 ghost use Rattle.bodies.specs.Parts.{part};
 ghost use Rattle.bodies.specs.Heads.{lone, head_of};
-ghost use Rattle.bodies.specs.Bodies.{when, shown_in, rest_in, head_in, key_in, gate_in, input_in};
+ghost use Rattle.bodies.specs.Bodies.{shown_in, rest_in, head_in, key_in, gate_in, input_in};
 
 use crate::{GateHead, WireBody};
+use plan::GateKind;
 
 // The byte at a place; 0 past the end.
 pub fn byte_in(bytes: &[u8], at: usize) -> u8
     ensures { result ≡ slice_index bytes.now at }
 {
-    if at < bytes.len() { bytes[at] } else { 0 }
-}
-
-// The number that four bytes write from a place on, with 0 for bytes past the end.
-pub fn number_in(bytes: &[u8], at: usize) -> u32
-    requires { at < 2 ^ 32 }
-    ensures { result ≡ number_at bytes.now at }
-{
-    u32::from_le_bytes([
-        byte_in(bytes, at),
-        byte_in(bytes, at + 1),
-        byte_in(bytes, at + 2),
-        byte_in(bytes, at + 3),
-    ])
+    bytes.get(at).copied().unwrap_or(0)
 }
 
 // What follows the first n bytes.
 pub fn after(bytes: &[u8], n: usize) -> &[u8]
     ensures { result.now ≡ drop n bytes.now }
 {
-    if n <= bytes.len() { &bytes[n..] } else { &[] }
+    bytes.get(n..).unwrap_or(&[])
+}
+
+// The number that four bytes write from a place on, with 0 for bytes past the end.
+pub fn number_in(bytes: &[u8], at: usize) -> u32
+    ensures { result ≡ number_at bytes.now at }
+{
+    let four = after(bytes, at);
+    u32::from_le_bytes([
+        byte_in(four, 0),
+        byte_in(four, 1),
+        byte_in(four, 2),
+        byte_in(four, 3),
+    ])
 }
 
 // The n bytes from a place on; none where they are not all there.
 pub fn part_of(bytes: &[u8], at: usize, n: usize) -> &[u8]
     ensures { result.now ≡ part bytes.now at n }
 {
-    if at <= bytes.len() && n <= bytes.len() - at {
-        &bytes[at..at + n]
-    } else {
-        &[]
-    }
-}
-
-// A mask where it is given.
-fn when(given: bool, mask: u32) -> Option<u32>
-    ensures { result ≡ when given mask }
-{
-    if given { Some(mask) } else { None }
+    bytes
+        .get(at..)
+        .and_then(|rest| rest.get(..n))
+        .unwrap_or(&[])
 }
 
 // A gate that reads one wire: its second place holds 0.
 fn lone(b: u8, gate: GateHead) -> Option<GateHead>
     ensures { result ≡ lone b gate }
 {
-    if b == 0 { Some(gate) } else { None }
+    (b == 0).then_some(gate)
 }
 
 // The gate by its kind byte, the places a and b, and what follows the mask.
-fn head_of(kind: u8, a: u8, b: u8, rest: &[u8]) -> Option<GateHead>
-    ensures { result ≡ head_of kind a b rest.now }
+fn head_of(number: u8, a: u8, b: u8, rest: &[u8]) -> Option<GateHead>
+    ensures { result ≡ head_of number a b rest.now }
 {
     let c = number_in(rest, 0);
     let d = number_in(rest, 4);
     let s = byte_in(rest, 0);
-    match kind {
-        1 => Some(GateHead::Sum { a, b }),
-        2 => lone(b, GateHead::Scale { a, c, d }),
-        3 => Some(GateHead::Product { a, b }),
-        4 => lone(b, GateHead::Piece { a, p: c, q: d }),
-        5 => lone(b, GateHead::Flag { a, p: c, q: d }),
-        6 => lone(b, GateHead::Shift { a, s }),
-        7 => lone(b, GateHead::SignedShift { a, s }),
-        8 => Some(GateHead::Xor { a, b }),
-        _ => None,
+    match GateKind::try_from(number).ok()? {
+        GateKind::Sum => Some(GateHead::Sum { a, b }),
+        GateKind::Scale => lone(b, GateHead::Scale { a, c, d }),
+        GateKind::Product => Some(GateHead::Product { a, b }),
+        GateKind::Piece => lone(
+            b,
+            GateHead::Piece {
+                a,
+                p: c,
+                q: d,
+                c: (),
+            },
+        ),
+        GateKind::Flag => lone(
+            b,
+            GateHead::Flag {
+                a,
+                p: c,
+                q: d,
+                pattern: (),
+            },
+        ),
+        GateKind::Shift => lone(b, GateHead::Shift { a, s }),
+        GateKind::SignedShift => lone(b, GateHead::SignedShift { a, s }),
+        GateKind::Xor => Some(GateHead::Xor { a, b }),
     }
 }
 
@@ -90,7 +98,7 @@ pub fn rest_in(body: &[u8]) -> &[u8]
 pub fn shown_in(body: &[u8]) -> Option<u32>
     ensures { result ≡ shown_in body.now }
 {
-    when(byte_in(body, 3) == 1, number_in(body, 4))
+    (byte_in(body, 3) == 1).then_some(number_in(body, 4))
 }
 
 // The gate of a body, where its kind is known and an unused place holds 0.
@@ -116,13 +124,10 @@ pub fn key_in(body: &[u8], gate: GateHead) -> &[u8]
 pub fn gate_in(body: &[u8]) -> Option<WireBody>
     ensures { result ≡ gate_in body.now }
 {
-    match head_in(body) {
-        Some(gate) => Some(WireBody::Gate {
-            shown: shown_in(body),
-            gate,
-        }),
-        None => None,
-    }
+    Some(WireBody::Gate {
+        gate: head_in(body)?,
+        shown: shown_in(body),
+    })
 }
 
 // What an input's body says in the book of one box.
@@ -132,6 +137,6 @@ pub fn input_in(number: u8, body: &[u8]) -> WireBody
     let owner = byte_in(body, 0);
     WireBody::Input {
         owner,
-        mask: when(owner == number, number_in(body, 1)),
+        mask: (owner == number).then_some(number_in(body, 1)),
     }
 }

@@ -13,8 +13,8 @@ use Rattle.layout.specs.Wires.{Gate, gate_key_bytes}
 use Rattle.layout.specs.Books.{wire_count}
 use Rattle.bodies.specs.declared.WireBody.{WireBody}
 use Rattle.bodies.specs.declared.WireBody.TheVariants as body
-use Rattle.bodies.specs.declared.GateHead.{GateHead}
-use Rattle.bodies.specs.declared.GateHead.TheVariants.{Sum, Scale, Product, Piece, Flag, Shift, SignedShift, Xor}
+use Rattle.plan.specs.Gates.{GateHead}
+use Rattle.plan.specs.declared.gates.Gate.TheVariants.{Sum, Scale, Product, Piece, Flag, Shift, SignedShift, Xor}
 use Rattle.bodies.specs.Heads.{gives_flag}
 use Rattle.bodies.specs.Bodies.{head_in, key_in}
 use Rattle.bodies.specs.Allowed.{head, key_allowed}
@@ -42,8 +42,8 @@ abbrev pub head_reads : GateHead → List ℕ
 head_reads (Sum a b) = a ∷ b ∷ []
 head_reads (Scale a c d) = a ∷ []
 head_reads (Product a b) = a ∷ b ∷ []
-head_reads (Piece a p q) = a ∷ []
-head_reads (Flag a p q) = a ∷ []
+head_reads (Piece a p q _) = a ∷ []
+head_reads (Flag a p q _) = a ∷ []
 head_reads (Shift a s) = a ∷ []
 head_reads (SignedShift a s) = a ∷ []
 head_reads (Xor a b) = a ∷ b ∷ []
@@ -52,8 +52,8 @@ abbrev pub head_keyed : GateHead → Bool
 head_keyed (Sum a b) = false
 head_keyed (Scale a c d) = false
 head_keyed (Product a b) = true
-head_keyed (Piece a p q) = true
-head_keyed (Flag a p q) = true
+head_keyed (Piece a p q _) = true
+head_keyed (Flag a p q _) = true
 head_keyed (Shift a s) = true
 head_keyed (SignedShift a s) = true
 head_keyed (Xor a b) = false
@@ -63,8 +63,8 @@ abbrev pub head_local : ℕ → GateHead → List ℕ → ℕ
 head_local n (Sum a b) hs = sum_of (2 ^ n) (slice_index hs 0) (slice_index hs 1)
 head_local n (Scale a c d) hs = scale_of (2 ^ n) c d (slice_index hs 0)
 head_local n (Product a b) hs = 0
-head_local n (Piece a p q) hs = 0
-head_local n (Flag a p q) hs = 0
+head_local n (Piece a p q _) hs = 0
+head_local n (Flag a p q _) hs = 0
 head_local n (Shift a s) hs = 0
 head_local n (SignedShift a s) hs = 0
 head_local n (Xor a b) hs = xor_of (slice_index hs 0) (slice_index hs 1)

@@ -1,6 +1,9 @@
 -- What holds of a plan that passes its questions.
 use Rattle.std.proofs.Common.{◌≡◌, ℕ, zero, suc, ◌+◌, ◌-◌, ◌<◌, ◌≤◌, Bool, true, ltb, leb, List, [], ◌∷◌, length, get_or, Ok, sym, refl, ap, ◌∙◌, arith}
 use Rattle.std.proofs.lemmas.Bool.{and_parts, leb-true, ltb-true}
+use Rattle.std.specs.List.{enumerate_from}
+use Rattle.std.proofs.lemmas.List.Sums.{AllPass-from_list_all}
+use Rattle.std.proofs.lemmas.List.FromFn.{length-enumerate_from, get_or-enumerate_from}
 use Rattle.refusal.specs.declared.Refusal.{Refusal}
 use Rattle.refusal.specs.Questions.{answered}
 use Rattle.refusal.proofs.Answered.{first_yes, rest_yes}
@@ -58,14 +61,14 @@ accepted p b words h =
 -- row by row
 reads_each : (p : Planned) (k : ℕ) (rows : List PlanRow) → reads_fit_from p k rows ≡ true → (i : ℕ) → i < length rows
     → reads_fit p (k + i) (get_or rows i no_row).body ≡ true
-reads_each p k [] h i l = absurd (omega arith)
-reads_each p k (r ∷ rs) h zero l =
-    let e : k + 0 ≡ k = omega arith in
-    ap (λ j. reads_fit p j r.body) e ∙ (and_parts (reads_fit p k r.body) (reads_fit_from p (k + 1) rs) h).0
-reads_each p k (r ∷ rs) h (suc i) l =
-    let e : k + suc i ≡ k + 1 + i = omega arith in
-    ap (λ j. reads_fit p j (get_or rs i no_row).body) e
-    ∙ reads_each p (k + 1) rs (and_parts (reads_fit p k r.body) (reads_fit_from p (k + 1) rs) h).1 i (omega arith)
+reads_each p k rows h i l =
+    let test : ℕ × PlanRow → Bool = λ r. reads_fit p (k + r.0) r.1.body in
+    let d : ℕ × PlanRow = (0, no_row) in
+    let n : i < length (enumerate_from 0 rows) = omega (arith, length-enumerate_from 0 rows) in
+    let z : 0 + i ≡ i = omega arith in
+    ap (λ j. reads_fit p (k + j) (get_or rows i no_row).body) (sym z)
+    ∙ ap test (sym (get_or-enumerate_from 0 rows i d l))
+    ∙ AllPass-from_list_all test (enumerate_from 0 rows) h i d n
 
 fields_each : (n : ℕ) (rows : List PlanRow) (i : ℕ) → all_fields_fit n rows ≡ true → fields_fit n (get_or rows i no_row).body ≡ true
 fields_each n [] i h = refl

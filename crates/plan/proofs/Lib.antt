@@ -1,3 +1,3 @@
+pub mod Words
 pub mod Accepted
-mod Loops
 mod Order

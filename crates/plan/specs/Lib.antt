@@ -1,4 +1,8 @@
+pub mod Gates
 pub mod Plans
 pub mod Questions
 pub mod Meaning
 pub mod Order
+pub mod Allowed
+pub mod Checked
+pub mod Lengths

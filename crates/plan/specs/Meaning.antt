@@ -1,8 +1,8 @@
 -- What each gate of a plan means on the plain values of the wires that it reads.
 use Rattle.std.specs.Prelude.{ℕ, ◌^◌, List, slice_index}
 use Rattle.shares.specs.Plain.{plain_sum, plain_scale, plain_product, plain_piece, plain_flag, plain_xor, plain_shift, plain_signed_shift}
-use Rattle.plan.specs.declared.GateBody.{GateBody}
-use Rattle.plan.specs.declared.GateBody.TheVariants.{Sum, Scale, Product, Piece, Flag, Shift, SignedShift, Xor}
+use Rattle.plan.specs.Gates.{GateBody}
+use Rattle.plan.specs.declared.gates.Gate.TheVariants.{Sum, Scale, Product, Piece, Flag, Shift, SignedShift, Xor}
 
 -- at width n; the values stand in the order in which the gate reads its wires
 abbrev pub plain_gate : ℕ → GateBody → List ℕ → ℕ

@@ -1,6 +1,6 @@
 -- When a plan counts one value as smaller than another, and the three gates that tell it.
 use Rattle.std.specs.Prelude.{◌≡◌, ℕ, ◌+◌, ◌-◌, ◌/◌, ◌%◌, ◌^◌, ◌<◌, Bool, cond, [], ◌∷◌, nat_le}
-use Rattle.plan.specs.declared.GateBody.TheVariants.{Sum, Scale, Flag}
+use Rattle.plan.specs.declared.gates.Gate.TheVariants.{Sum, Scale, Flag}
 use Rattle.plan.specs.Meaning.{plain_gate}
 
 -- (a − b) mod N lies in N/2 to N − 1

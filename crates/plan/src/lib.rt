@@ -1,26 +1,21 @@
 // Plans: a width, inputs with an owner, and gates; and the questions that are asked about one.
 #![tactic(auto)]
 
-ghost use Rattle.std.specs.Prelude.{◌≡◌, ◌≤◌};
-ghost use Rattle.plan.specs.Plans.{gives_flag, is_keyed, words_of};
+ghost use Rattle.std.specs.Prelude.{◌≡◌, ◌≤◌, cond, nat_lt};
+ghost use Rattle.plan.specs.Plans.{stated, wires, wire_at, is_flag, wire_words};
 ghost use Rattle.plan.specs.Order.{SmallerIsTold};
 
 mod asking;
+mod checked;
+mod gates;
+mod lengths;
 
-pub use asking::{below, check_plan, interval_fits, shift_fits};
-
-// A gate with the wires that it reads and its plain numbers.
-#[derive(Clone, Copy)]
-pub enum GateBody {
-    Sum { a: u8, b: u8 },
-    Scale { a: u8, c: u32, d: u32 },
-    Product { a: u8, b: u8 },
-    Piece { a: u8, p: u32, q: u32, c: [u32; 4] },
-    Flag { a: u8, p: u32, q: u32, pattern: u32 },
-    Shift { a: u8, s: u8 },
-    SignedShift { a: u8, s: u8 },
-    Xor { a: u8, b: u8 },
-}
+pub use asking::check_plan;
+pub use checked::CheckedPlan;
+pub use lengths::compared_long;
+pub use gates::{
+    Gate, GateBody, GateHead, GateKind, UnknownKind, Wires, below, interval_fits, shift_fits,
+};
 
 // One gate of a plan, and whether its wire is shown.
 #[derive(Clone, Copy)]
@@ -37,38 +32,56 @@ pub struct Plan<'a> {
     pub rows: &'a [PlanRow],
 }
 
-impl GateBody {
-    // Whether the gate's wire carries flags.
-    pub fn gives_flag(self) -> bool
-        ensures { result ≡ gives_flag self }
+// One wire of a plan.
+#[derive(Clone, Copy)]
+pub enum PlanWire {
+    Input { owner: u8 },
+    Gate(PlanRow),
+}
+
+impl<'a> Plan<'a> {
+    // How many wires there are.
+    pub fn wires(self) -> usize
+        ensures { result ≡ wires (stated self.entry) }
     {
-        match self {
-            GateBody::Flag { .. } | GateBody::Xor { .. } => true,
+        self.owners.len() + self.rows.len()
+    }
+
+    // Wire k, where the plan has one.
+    pub fn wire(self, k: usize) -> Option<PlanWire>
+        ensures { result ≡ cond (nat_lt k (wires (stated self.entry))) (Some (wire_at (stated self.entry) k)) None }
+    {
+        let inputs = self.owners.len();
+        if k < inputs {
+            Some(PlanWire::Input {
+                owner: self.owners[k],
+            })
+        } else {
+            self.rows.get(k - inputs).map(|row| PlanWire::Gate(*row))
+        }
+    }
+}
+
+impl<'a> Wires for Plan<'a> {
+    ghost flags = { λ plan k. is_flag (stated plan) k };
+
+    fn is_flag(&self, wire: usize) -> bool {
+        match self.wire(wire) {
+            Some(PlanWire::Gate(row)) => row.body.gives_flag(),
             _ => false,
         }
     }
+}
 
-    // Whether the gate is worked with a key.
-    pub fn is_keyed(self) -> bool
-        ensures { result ≡ is_keyed self }
-    {
-        match self {
-            GateBody::Sum { .. } | GateBody::Scale { .. } | GateBody::Xor { .. } => false,
-            _ => true,
-        }
-    }
-
-    // How many random words the gate takes.
+impl PlanWire {
+    // How many random words the wire takes.
     pub fn words(self) -> usize
-        ensures count { result ≡ words_of self }
+        ensures count { result ≡ wire_words self }
         ensures few { result ≤ 14 }
     {
         match self {
-            GateBody::Sum { .. } | GateBody::Scale { .. } | GateBody::Xor { .. } => 0,
-            GateBody::Product { .. } => 4,
-            GateBody::Piece { .. } => 14,
-            GateBody::Flag { .. } => 8,
-            GateBody::Shift { .. } | GateBody::SignedShift { .. } => 10,
+            PlanWire::Input { .. } => 1,
+            PlanWire::Gate(row) => row.body.words(),
         }
     }
 }

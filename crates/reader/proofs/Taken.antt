@@ -7,8 +7,8 @@ use Rattle.layout.specs.Bytes.{joined}
 use Rattle.layout.specs.Wires as wire
 use Rattle.layout.specs.Wires.{Wire, Gate, input, gate, wire_bytes}
 use Rattle.layout.specs.Books.{Header, wire_count, book_length, laid_out}
-use Rattle.bodies.specs.declared.GateHead.{GateHead}
-use Rattle.bodies.specs.declared.GateHead.TheVariants.{Sum, Scale, Product, Piece, Flag, Shift, SignedShift, Xor}
+use Rattle.plan.specs.Gates.{GateHead}
+use Rattle.plan.specs.declared.gates.Gate.TheVariants.{Sum, Scale, Product, Piece, Flag, Shift, SignedShift, Xor}
 use Rattle.bodies.specs.Heads.{gives_flag, lower_number, lower_flag, reads_fit}
 use Rattle.bodies.specs.Bodies.{head_in, gate_of, gate_in, input_in, gate_fits, input_fits}
 use Rattle.bodies.specs.Allowed.{head}
@@ -59,8 +59,8 @@ module _ (f g : ℕ → Bool) (k : ℕ) (same : (j : ℕ) → j < k → f j ≡ 
   reads_same (Sum a b) = λ i. number_same a i && number_same b i
   reads_same (Scale a c d) = number_same a
   reads_same (Product a b) = λ i. number_same a i && number_same b i
-  reads_same (Piece a p q) = number_same a
-  reads_same (Flag a p q) = number_same a
+  reads_same (Piece a p q _) = number_same a
+  reads_same (Flag a p q _) = number_same a
   reads_same (Shift a s) = number_same a
   reads_same (SignedShift a s) = number_same a
   reads_same (Xor a b) = λ i. flag_same a i && flag_same b i

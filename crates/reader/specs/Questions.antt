@@ -6,7 +6,7 @@ use Rattle.refusal.specs.Questions.{answered}
 use Rattle.plan.specs.Questions.{within}
 use Rattle.layout.specs.Bytes.{number_at}
 use Rattle.layout.specs.Books.{wire_count, bodies_start}
-use Rattle.bodies.specs.declared.GateHead.{GateHead}
+use Rattle.plan.specs.Gates.{GateHead}
 use Rattle.bodies.specs.Heads.{reads_fit}
 use Rattle.bodies.specs.Bodies.{head_in, gate_fits, input_fits}
 use Rattle.reader.specs.Reading.{header_in, body_in, flag_in}
