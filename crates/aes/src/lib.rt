@@ -1,13 +1,13 @@
 // AES-128 by tables, and the expander of kind 1 that is made of it.
 #![tactic(auto)]
 
-ghost use Rattle.std.specs.Prelude.{◌≡◌, ◌+◌, ◌≤◌};
+ghost use Rattle.std.specs.Prelude.{◌≡◌, ◌+◌, ◌≤◌, refl};
 ghost use Rattle.aes.specs.Keys.{key_of};
 ghost use Rattle.standards.specs.Fips197.{cipher};
 ghost use Rattle.standards.specs.Kinds.{kind1, long_at, number};
 ghost use Rattle.standards.proofs.Lengths.{wide1};
 
-use expander::{Branches, Expander, Seed};
+use expander::{Branches, Expander, Seed, Side};
 pub use round_keys::RoundKeys;
 use standards::lowest_bit;
 
@@ -50,24 +50,28 @@ fn word_at(block: &[u8; 16], i: usize) -> u64
 impl Expander for Aes128 {
     ghost meaning = { kind1 };
 
+    ghost KIND = { 1 };
+
     const KIND: u8 = 1;
 
-    ghost wide = { λ seed. wide1 seed };
+    ghost kind_of_meaning = { refl };
 
-    fn kind_number() -> u8 {
-        Self::KIND
-    }
+    ghost wide = { λ seed. wide1 seed };
 
     fn branch(&self, seed: Seed) -> Branches {
         let keys = RoundKeys::new(&seed.bytes);
         let bits = keys.encrypt_number(4);
         Branches {
-            left: seed_number(&keys, 0),
-            left_value: seed_number(&keys, 1),
-            left_bit: lowest_bit(bits[0]),
-            right: seed_number(&keys, 2),
-            right_value: seed_number(&keys, 3),
-            right_bit: lowest_bit(bits[1]),
+            left: Side {
+                seed: seed_number(&keys, 0),
+                value: seed_number(&keys, 1),
+                bit: lowest_bit(bits[0]),
+            },
+            right: Side {
+                seed: seed_number(&keys, 2),
+                value: seed_number(&keys, 3),
+                bit: lowest_bit(bits[1]),
+            },
         }
     }
 

@@ -1,13 +1,13 @@
 // ChaCha20, and the expander of kind 2 that is made of it.
 #![tactic(auto)]
 
-ghost use Rattle.std.specs.Prelude.{◌≡◌, ◌+◌, ◌≤◌};
+ghost use Rattle.std.specs.Prelude.{◌≡◌, ◌+◌, ◌≤◌, refl};
 ghost use Rattle.standards.specs.Kinds.{kind2, block2, seed_at, long_at};
 ghost use Rattle.standards.proofs.Lengths.{wide2};
 
 pub use blocks::block;
 use blocks::twice;
-use expander::{Branches, Expander, Seed};
+use expander::{Branches, Expander, Seed, Side};
 pub use rounds::{quarter_round, quarter_round_at};
 use standards::lowest_bit;
 
@@ -54,24 +54,28 @@ fn word_at(block: &[u8; 64], i: usize) -> u64
 impl Expander for ChaCha20 {
     ghost meaning = { kind2 };
 
+    ghost KIND = { 2 };
+
     const KIND: u8 = 2;
 
-    ghost wide = { λ seed. wide2 seed };
+    ghost kind_of_meaning = { refl };
 
-    fn kind_number() -> u8 {
-        Self::KIND
-    }
+    ghost wide = { λ seed. wide2 seed };
 
     fn branch(&self, seed: Seed) -> Branches {
         let seeds = seed_block(seed, 0);
         let bits = seed_block(seed, 1);
         Branches {
-            left: seed_at(&seeds, 0),
-            left_value: seed_at(&seeds, 16),
-            left_bit: lowest_bit(bits[0]),
-            right: seed_at(&seeds, 32),
-            right_value: seed_at(&seeds, 48),
-            right_bit: lowest_bit(bits[1]),
+            left: Side {
+                seed: seed_at(&seeds, 0),
+                value: seed_at(&seeds, 16),
+                bit: lowest_bit(bits[0]),
+            },
+            right: Side {
+                seed: seed_at(&seeds, 32),
+                value: seed_at(&seeds, 48),
+                bit: lowest_bit(bits[1]),
+            },
         }
     }
 

@@ -10,5 +10,5 @@ pub record Expansion : Type 0 where
 
 -- both next seeds have 16 bytes
 pub record Wide (b : Branches) : Type 0 where
-  pub left : length b.left.bytes ≡ 16
-  pub right : length b.right.bytes ≡ 16
+  pub left : length b.left.seed.bytes ≡ 16
+  pub right : length b.right.seed.bytes ≡ 16

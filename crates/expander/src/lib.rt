@@ -1,7 +1,7 @@
 // Expanders: two functions of a seed, and the kind number that a book names.
 #![tactic(auto)]
 
-ghost use Rattle.std.specs.Prelude.{◌≡◌};
+ghost use Rattle.std.specs.Prelude.{◌≡◌, ℕ};
 ghost use Rattle.expander.specs.declared.Seed.{Seed};
 ghost use Rattle.expander.specs.Meaning.{Expansion, Wide};
 ghost use Rattle.expander.specs.Seeds.{xor_seeds};
@@ -22,15 +22,19 @@ impl Seed {
     }
 }
 
-// What a seed branches to: on each side the next seed, the seed that values are drawn from, and a bit.
+// One side of a branch: the next seed, the seed that values are drawn from, and a bit.
+#[derive(Clone, Copy)]
+pub struct Side {
+    pub seed: Seed,
+    pub value: Seed,
+    pub bit: bool,
+}
+
+// What a seed branches to.
 #[derive(Clone, Copy)]
 pub struct Branches {
-    pub left: Seed,
-    pub left_value: Seed,
-    pub left_bit: bool,
-    pub right: Seed,
-    pub right_value: Seed,
-    pub right_bit: bool,
+    pub left: Side,
+    pub right: Side,
 }
 
 pub trait Expander {
@@ -38,11 +42,10 @@ pub trait Expander {
     // hold three implementations of one meaning.
     ghost meaning: { Expansion };
 
-    const KIND: u8;
+    // The number of its kind, as the meaning has it.
+    ghost KIND: { ℕ };
 
-    // The constant KIND, for generic code.
-    fn kind_number() -> u8
-        ensures { result ≡ meaning.kind };
+    const KIND: u8;
 
     fn branch(&self, seed: Seed) -> Branches
         ensures { result ≡ meaning.branch seed };
@@ -50,6 +53,9 @@ pub trait Expander {
     // Eight words from which elements of an output group are made.
     fn draw(&self, seed: Seed) -> [u64; 8]
         ensures { result ≡ meaning.draw seed };
+
+    // A book names the kind of the meaning.
+    ghost kind_of_meaning: { KIND ≡ meaning.kind };
 
     // Branching gives whole seeds.
     ghost wide: { (seed : Seed) → Wide (meaning.branch seed) };

@@ -107,12 +107,11 @@ fn kind_blocks(rt: &HostRuntime) -> io::Result<()> {
 fn expansion<X: Expander>(rt: &HostRuntime, kind: &str, expander: &X) -> io::Result<()> {
     let seed = Seed { bytes: *COUNT_16 };
     let branches = expander.branch(seed);
-    line(rt, kind, "left", &branches.left.bytes)?;
-    line(rt, kind, "left value", &branches.left_value.bytes)?;
-    line(rt, kind, "left bit", &[branches.left_bit as u8])?;
-    line(rt, kind, "right", &branches.right.bytes)?;
-    line(rt, kind, "right value", &branches.right_value.bytes)?;
-    line(rt, kind, "right bit", &[branches.right_bit as u8])?;
+    for (name, side) in [("left", branches.left), ("right", branches.right)] {
+        println!(rt; "{kind} {name}: {}", Hex(&side.seed.bytes))?;
+        println!(rt; "{kind} {name} value: {}", Hex(&side.value.bytes))?;
+        println!(rt; "{kind} {name} bit: {}", Hex(&[side.bit as u8]))?;
+    }
     for word in expander.draw(seed) {
         line(rt, kind, "word", &word.to_be_bytes())?;
     }

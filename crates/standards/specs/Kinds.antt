@@ -36,12 +36,16 @@ block1 seed j = cipher seed.bytes (number j)
 abbrev pub branch1 : Seed → Branches
 branch1 seed =
     record {
-      left = record { bytes = block1 seed 0 };
-      left_value = record { bytes = block1 seed 1 };
-      left_bit = bit_at 0 (block1 seed 4);
-      right = record { bytes = block1 seed 2 };
-      right_value = record { bytes = block1 seed 3 };
-      right_bit = bit_at 1 (block1 seed 4);
+      left = record {
+        seed = record { bytes = block1 seed 0 };
+        value = record { bytes = block1 seed 1 };
+        bit = bit_at 0 (block1 seed 4);
+      };
+      right = record {
+        seed = record { bytes = block1 seed 2 };
+        value = record { bytes = block1 seed 3 };
+        bit = bit_at 1 (block1 seed 4);
+      };
     }
 
 -- kind 1: blocks 5 to 8 are the words, two in each
@@ -65,12 +69,16 @@ block2 seed counter = block (seed.bytes ++ seed.bytes) counter zero_nonce
 abbrev pub branch2 : Seed → Branches
 branch2 seed =
     record {
-      left = seed_at 0 (block2 seed 0);
-      left_value = seed_at 16 (block2 seed 0);
-      left_bit = bit_at 0 (block2 seed 1);
-      right = seed_at 32 (block2 seed 0);
-      right_value = seed_at 48 (block2 seed 0);
-      right_bit = bit_at 1 (block2 seed 1);
+      left = record {
+        seed = seed_at 0 (block2 seed 0);
+        value = seed_at 16 (block2 seed 0);
+        bit = bit_at 0 (block2 seed 1);
+      };
+      right = record {
+        seed = seed_at 32 (block2 seed 0);
+        value = seed_at 48 (block2 seed 0);
+        bit = bit_at 1 (block2 seed 1);
+      };
     }
 
 -- kind 2: counter 2 gives the words
