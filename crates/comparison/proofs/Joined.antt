@@ -1,5 +1,5 @@
 -- From a dealt key and two evaluations to the join.
-use Rattle.std.proofs.Common.{◌≡◌, ℕ, ◌^◌, Bool, true, false, ◌&&◌, List, map, sym, refl, ap, ◌∙◌}
+use Rattle.std.proofs.Common.{◌≡◌, ℕ, ◌^◌, Bool, true, false, ◌&&◌, List, map, length, sym, refl, ap, ◌∙◌}
 use Rattle.std.proofs.lemmas.Bool.{ltb-true}
 use Rattle.group.specs.Groups.{OutputGroup}
 use Rattle.expander.specs.Meaning.{Expansion}
@@ -25,9 +25,15 @@ both_right false true h = refl
 both_right false false h = h
 
 module _ {G M : Type 0} (g : OutputGroup M) (mean : G → M) (d : Expansion) (n α : ℕ) (β : M) (root0 root1 : Seed) (m : ℕ)
-    (rows : List (Row G)) (last : G)
-    (rows_are : map (row_mean mean) rows ≡ dealt_rows d g β α n (start g root0 root1))
-    (last_is : mean last ≡ dealt_last d g β α n (start g root0 root1)) where
+    (before after rows : List (Row G)) (last : G) (all : length before ≡ n)
+    (dealt : map (row_mean mean) after ≡ dealt_rows d g β α (length before) (start g root0 root1)) (read : rows ≡ after)
+    (last_dealt : mean last ≡ dealt_last d g β α (length before) (start g root0 root1)) where
+  rows_are : map (row_mean mean) rows ≡ dealt_rows d g β α n (start g root0 root1)
+  rows_are = ap (map (row_mean mean)) read ∙ dealt ∙ ap (λ k. dealt_rows d g β α k (start g root0 root1)) all
+
+  last_is : mean last ≡ dealt_last d g β α n (start g root0 root1)
+  last_is = last_dealt ∙ ap (λ k. dealt_last d g β α k (start g root0 root1)) all
+
   -- evaluating the dealt rows is evaluating the defined ones
   answer_is : (x : Expansion) (one : Bool) (root : Seed) (a : G) → mean a ≡ evaluated x g mean one root rows last m
       → mean a ≡ dealt_answer g d x n α β root0 root1 one root m

@@ -1,7 +1,8 @@
 // Comparison keys: the calls that deal a key, evaluate it and join both answers, with the questions that they ask first.
 #![tactic(auto)]
 
-ghost use Rattle.std.specs.Prelude.{◌≡◌, true, false, ◌&&◌, length};
+ghost use Rattle.std.specs.Prelude.{◌≡◌, true, false, List, length};
+ghost use Rattle.std.specs.List.{list_all};
 ghost use Rattle.refusal.specs.Questions.{answered};
 ghost use Rattle.key.specs.Rows.{row_mean, is_one};
 ghost use Rattle.evaluation.specs.Evaluation.{evaluated};
@@ -12,10 +13,10 @@ ghost use Rattle.joining.specs.Joining.{compared};
 
 use dealing::deal;
 use evaluation::answer;
-use expander::{Expander, Seed};
+use expander::Expander;
 use group::Group;
 use joining::join;
-use key::{BoxNumber, Row, Rows};
+use key::{BoxNumber, KeyEnds, Roots, Row, Rows};
 use refusal::Refusal;
 
 // Whether a number is below 2^width.
@@ -25,21 +26,21 @@ fn in_range(number: u32, width: u8) -> bool
     width >= 32 || number < 1u32 << width
 }
 
-// Whether a threshold and a point are.
-fn both_in_range(threshold: u32, point: u32, width: u8) -> bool
-    ensures { result ≡ is_in_range width threshold && is_in_range width point }
+// Whether all of these numbers are.
+fn all_in_range(numbers: &[u32], width: u8) -> bool
+    ensures { result ≡ list_all (is_in_range width) numbers.now }
 {
-    in_range(threshold, width) && in_range(point, width)
+    numbers.iter().all(|number| in_range(*number, width))
 }
 
-// The questions of a key, in their order.
-fn ask_key(width: u8, in_range: bool, rows: usize, words: usize) -> Result<(), Refusal>
-    ensures { result ≡ asked_all width in_range rows words }
+// The questions of a key, in their order; the numbers are its threshold, its point, or both.
+fn ask_key<G: Group>(width: u8, numbers: &[u32], rows: &Rows<G>) -> Result<(), Refusal>
+    ensures { result ≡ asked_all width (list_all (is_in_range width) numbers.now) (length rows.now.rows.now) G.Group.group.count }
 {
     Refusal::ask(width >= 1 && width <= 32, Refusal::KeyWidth)?;
-    Refusal::ask(in_range, Refusal::KeyRange)?;
-    Refusal::ask(rows == width as usize, Refusal::KeyRows)?;
-    Refusal::ask(words <= 8, Refusal::KeyWords)
+    Refusal::ask(all_in_range(numbers, width), Refusal::KeyRange)?;
+    Refusal::ask(rows.count() == width as usize, Refusal::KeyRows)?;
+    Refusal::ask(G::words() <= 8, Refusal::KeyWords)
 }
 
 // Deals a key with this threshold and payload into the table, and returns the final element.
@@ -48,19 +49,18 @@ pub fn deal_key<X: Expander, G: Group>(
     width: u8,
     threshold: u32,
     payload: G,
-    root0: Seed,
-    root1: Seed,
+    roots: Roots,
     rows: &mut Rows<G>,
 ) -> Result<G, Refusal>
     ensures answer { answer_mean G.Group.mean result
         ≡ answered (key_asks width threshold (length rows.old.rows.now) G.Group.group.count)
-        (dealt_last X.Expander.meaning G.Group.group (G.Group.mean payload) threshold width (start G.Group.group root0 root1)) }
+        (dealt_last X.Expander.meaning G.Group.group (G.Group.mean payload) threshold width (start G.Group.group roots.zero roots.one)) }
     ensures rows { RowsAfter G.Group.mean result rows.old.rows.now rows.new.rows.now
-        (dealt_rows X.Expander.meaning G.Group.group (G.Group.mean payload) threshold width (start G.Group.group root0 root1)) }
+        (dealt_rows X.Expander.meaning G.Group.group (G.Group.mean payload) threshold width (start G.Group.group roots.zero roots.one)) }
     ensures same { rows.new.rows.ghost_name ≡ rows.old.rows.ghost_name }
 {
-    ask_key(width, in_range(threshold, width), rows.count(), G::words())?;
-    Ok(deal(expander, threshold, payload, root0, root1, rows))
+    ask_key(width, &[threshold], rows)?;
+    Ok(deal(expander, threshold, payload, roots, rows))
 }
 
 // A box's answer at a point, from its root and what both boxes hold in common.
@@ -68,17 +68,16 @@ pub fn evaluate<X: Expander, G: Group>(
     expander: &X,
     number: BoxNumber,
     width: u8,
-    root: Seed,
+    ends: KeyEnds<G>,
     rows: &Rows<G>,
-    last: G,
     point: u32,
 ) -> Result<G, Refusal>
     ensures { answer_mean G.Group.mean result
         ≡ answered (key_asks width point (length rows.now.rows.now) G.Group.group.count)
-        (evaluated X.Expander.meaning G.Group.group G.Group.mean (is_one number) root rows.now.rows.now last point) }
+        (evaluated X.Expander.meaning G.Group.group G.Group.mean (is_one number) ends.root rows.now.rows.now ends.last point) }
 {
-    ask_key(width, in_range(point, width), rows.count(), G::words())?;
-    Ok(answer(expander, number, root, rows.as_slice(), last, point))
+    ask_key(width, &[point], rows)?;
+    Ok(answer(expander, number, ends, rows.as_slice(), point))
 }
 
 // Both boxes' answers, and what they join to.
@@ -93,20 +92,27 @@ pub struct Answers<G> {
 fn answer_both<X: Expander, Y: Expander, G: Group>(
     box0: &X,
     box1: &Y,
-    root0: Seed,
-    root1: Seed,
+    roots: Roots,
     rows: &[Row<G>],
     last: G,
     point: u32,
 ) -> Answers<G>
     ensures zero { G.Group.mean result.answer0
-        ≡ evaluated X.Expander.meaning G.Group.group G.Group.mean false root0 rows.now last point }
+        ≡ evaluated X.Expander.meaning G.Group.group G.Group.mean false roots.zero rows.now last point }
     ensures one { G.Group.mean result.answer1
-        ≡ evaluated Y.Expander.meaning G.Group.group G.Group.mean true root1 rows.now last point }
+        ≡ evaluated Y.Expander.meaning G.Group.group G.Group.mean true roots.one rows.now last point }
     ensures sum { G.Group.mean result.joined ≡ G.Group.group.sum (G.Group.mean result.answer0) (G.Group.mean result.answer1) }
 {
-    let answer0 = answer(box0, BoxNumber::Zero, root0, rows, last, point);
-    let answer1 = answer(box1, BoxNumber::One, root1, rows, last, point);
+    let ends0 = KeyEnds {
+        root: roots.zero,
+        last,
+    };
+    let ends1 = KeyEnds {
+        root: roots.one,
+        last,
+    };
+    let answer0 = answer(box0, BoxNumber::Zero, ends0, rows, point);
+    let answer1 = answer(box1, BoxNumber::One, ends1, rows, point);
     Answers {
         answer0,
         answer1,
@@ -124,29 +130,23 @@ pub fn compare<D: Expander, X: Expander, Y: Expander, G: Group>(
     width: u8,
     threshold: u32,
     payload: G,
-    root0: Seed,
-    root1: Seed,
+    roots: Roots,
     rows: &mut Rows<G>,
     point: u32,
 ) -> Result<Answers<G>, Refusal>
     ensures answers { answer_mean (answers_mean G.Group.mean) result
         ≡ answered (compare_asks width threshold point (length rows.old.rows.now) G.Group.group.count)
         (both_answers G.Group.group D.Expander.meaning X.Expander.meaning Y.Expander.meaning
-        width threshold (G.Group.mean payload) root0 root1 point) }
+        width threshold (G.Group.mean payload) roots.zero roots.one point) }
     ensures joins { D.Expander.meaning ≡ X.Expander.meaning → D.Expander.meaning ≡ Y.Expander.meaning
         → answer_mean (joined_mean G.Group.mean) result
         ≡ answered (compare_asks width threshold point (length rows.old.rows.now) G.Group.group.count)
         (compared G.Group.group threshold (G.Group.mean payload) point) }
     ensures rows { RowsAfter G.Group.mean result rows.old.rows.now rows.new.rows.now
-        (dealt_rows D.Expander.meaning G.Group.group (G.Group.mean payload) threshold width (start G.Group.group root0 root1)) }
+        (dealt_rows D.Expander.meaning G.Group.group (G.Group.mean payload) threshold width (start G.Group.group roots.zero roots.one)) }
     ensures same { rows.new.rows.ghost_name ≡ rows.old.rows.ghost_name }
 {
-    ask_key(
-        width,
-        both_in_range(threshold, point, width),
-        rows.count(),
-        G::words(),
-    )?;
-    let last = deal(dealer, threshold, payload, root0, root1, rows);
-    Ok(answer_both(box0, box1, root0, root1, rows.as_slice(), last, point))
+    ask_key(width, &[threshold, point], rows)?;
+    let last = deal(dealer, threshold, payload, roots, rows);
+    Ok(answer_both(box0, box1, roots, rows.as_slice(), last, point))
 }

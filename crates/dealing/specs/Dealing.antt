@@ -45,8 +45,8 @@ module _ {M : Type 0} (x : Expansion) (g : OutputGroup M) where
       let lose1 = side_of b1 (not bit) in
       record {
         word = xor_seeds lose0.seed lose1.seed;
-        left = differ (differ b0.left_bit b1.left_bit) (not bit);
-        right = differ (differ b0.right_bit b1.right_bit) bit;
+        left = differ (differ b0.left.bit b1.left.bit) (not bit);
+        right = differ (differ b0.right.bit b1.right.bit) bit;
         element = cond bit (g.sum (cancelling lose0.value lose1.value d) (signed g d.control1 β)) (cancelling lose0.value lose1.value d);
       }
 

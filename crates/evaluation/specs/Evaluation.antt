@@ -7,7 +7,7 @@ use Rattle.expander.specs.declared.Seed.{Seed}
 use Rattle.expander.specs.declared.Branches.{Branches}
 use Rattle.key.specs.declared.Row.{Row}
 use Rattle.key.specs.Rows.{row_bit}
-use Rattle.evaluation.specs.declared.Side.{Side}
+use Rattle.expander.specs.declared.Side.{Side}
 use Rattle.evaluation.specs.declared.Walk.{Walk}
 
 -- the XOR of two bits
@@ -17,8 +17,8 @@ differ false b = b
 
 -- the left side of a branch, or the right
 abbrev pub side_of : Branches → Bool → Side
-side_of b true = record { seed = b.right; value = b.right_value; bit = b.right_bit }
-side_of b false = record { seed = b.left; value = b.left_value; bit = b.left_bit }
+side_of b true = b.right
+side_of b false = b.left
 
 -- bit k of a number, counted from the lowest
 abbrev pub bit_at : ℕ → ℕ → Bool

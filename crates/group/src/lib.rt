@@ -1,13 +1,16 @@
 // Output groups: what the answers of a comparison key are added in.
 #![tactic(auto)]
 
-ghost use Rattle.std.specs.Prelude.{◌≡◌, ◌^◌, ◌%◌, ◌≤◌};
+ghost use Rattle.std.specs.Prelude.{◌≡◌, ◌^◌, ◌%◌, ◌≤◌, Some, codes, decimal};
+ghost use Rattle.std.specs.Fmt.{◌++?◌};
 ghost use Rattle.std.proofs.Common.{lit<};
 ghost use Rattle.group.specs.Groups.{OutputGroup, minus};
 ghost use Rattle.group.specs.Residues.{Residue, reduce, residues};
 ghost use Rattle.group.specs.Flags.{flags};
 ghost use Rattle.group.specs.Pairs.{both};
 ghost use Rattle.group.specs.Quads.{quad_from};
+
+use std::fmt;
 
 pub trait Group: Copy {
     // What elements mean, and the group that their meanings form. The laws are laws of meanings: two elements may
@@ -69,6 +72,14 @@ impl Group for Word {
     }
 }
 
+impl fmt::Display for Word {
+    ghost output = { λ w. Some (decimal w.0) };
+
+    fn fmt<W: fmt::Write>(&self, f: &mut fmt::Formatter<W>) -> fmt::Result {
+        write!(f, "{}", self.0)
+    }
+}
+
 // 32-bit flags under XOR.
 #[derive(Clone, Copy)]
 pub struct Flags(pub u32);
@@ -98,6 +109,14 @@ impl Group for Flags {
 
     fn from_draw(words: &[u64; 8], start: usize) -> Flags {
         Flags(low_half(words[start % 8]))
+    }
+}
+
+impl fmt::Display for Flags {
+    ghost output = { λ w. Some (decimal w.0) };
+
+    fn fmt<W: fmt::Write>(&self, f: &mut fmt::Formatter<W>) -> fmt::Result {
+        write!(f, "{}", self.0)
     }
 }
 
@@ -151,6 +170,15 @@ impl<L: Group, R: Group> Group for Pair<L, R> {
         let left = L::from_draw(words, start);
         let right = R::from_draw(words, (start % 8 + L::words()) % 8);
         Pair { left, right }
+    }
+}
+
+// Its parts, with a comma between.
+impl<L: fmt::Display, R: fmt::Display> fmt::Display for Pair<L, R> {
+    ghost output = { λ p. L.Display.output p.left ++? Some (codes ",") ++? R.Display.output p.right };
+
+    fn fmt<W: fmt::Write>(&self, f: &mut fmt::Formatter<W>) -> fmt::Result {
+        write!(f, "{},{}", self.left, self.right)
     }
 }
 

@@ -160,14 +160,14 @@ module _ {M : Type 0} (x : Expansion) (g : OutputGroup M) (β : M) (α m : ℕ) 
       let d' : Descent M = next_at x g β true d in
       steps (dealt_rows x g β α k d') (dealt_last x g β α k d') r true s0 s1 (not t) t a b
       ∙ from k d'.seed0 d'.seed1 d'.control0 d'.control1 d'.apart (sum_after r true s0 (not t) a) (sum_after r true s1 t b) on
-      (controls_apart t (x.branch s0).right_bit (x.branch s1).right_bit) (step_sum g.laws t a b (draw_at true s0) (draw_at true s1) r.element)
+      (controls_apart t (x.branch s0).right.bit (x.branch s1).right.bit) (step_sum g.laws t a b (draw_at true s0) (draw_at true s1) r.element)
   on_bits wide k on s0 s1 t a b false false =
       let d : Descent M = deal s0 s1 (not t) t (minus g a b) in
       let r : Row M = row_at x g β false d in
       let d' : Descent M = next_at x g β false d in
       steps (dealt_rows x g β α k d') (dealt_last x g β α k d') r false s0 s1 (not t) t a b
       ∙ from k d'.seed0 d'.seed1 d'.control0 d'.control1 d'.apart (sum_after r false s0 (not t) a) (sum_after r false s1 t b) on
-      (controls_apart t (x.branch s0).left_bit (x.branch s1).left_bit) (step_sum g.laws t a b (draw_at false s0) (draw_at false s1) r.element)
+      (controls_apart t (x.branch s0).left.bit (x.branch s1).left.bit) (step_sum g.laws t a b (draw_at false s0) (draw_at false s1) r.element)
   on_bits wide k on s0 s1 t a b true false =
       let d : Descent M = deal s0 s1 (not t) t (minus g a b) in
       let r : Row M = row_at x g β true d in
@@ -177,8 +177,8 @@ module _ {M : Type 0} (x : Expansion) (g : OutputGroup M) (β : M) (α m : ℕ) 
       steps rs last r false s0 s1 (not t) t a b
       ∙ met rs last (seed_after r false s0 (not t)) (seed_after r false s1 t) (control_after r false s0 (not t)) (control_after r false s1 t)
       (sum_after r false s0 (not t) a) (sum_after r false s1 t b)
-      (seeds_meet t (x.branch s0).left (x.branch s1).left ((wide s0).left ∙ sym (wide s1).left))
-      (controls_fixed t (x.branch s0).left_bit (x.branch s1).left_bit)
+      (seeds_meet t (x.branch s0).left.seed (x.branch s1).left.seed ((wide s0).left ∙ sym (wide s1).left))
+      (controls_fixed t (x.branch s0).left.bit (x.branch s1).left.bit)
       ∙ step_sum g.laws t a b (draw_at false s0) (draw_at false s1) r.element
       ∙ left_over g.laws t (minus g a b) (draw_at false s0) (draw_at false s1) β
   on_bits wide k on s0 s1 t a b false true =
@@ -190,8 +190,8 @@ module _ {M : Type 0} (x : Expansion) (g : OutputGroup M) (β : M) (α m : ℕ) 
       steps rs last r true s0 s1 (not t) t a b
       ∙ met rs last (seed_after r true s0 (not t)) (seed_after r true s1 t) (control_after r true s0 (not t)) (control_after r true s1 t)
       (sum_after r true s0 (not t) a) (sum_after r true s1 t b)
-      (seeds_meet t (x.branch s0).right (x.branch s1).right ((wide s0).right ∙ sym (wide s1).right))
-      (controls_fixed t (x.branch s0).right_bit (x.branch s1).right_bit)
+      (seeds_meet t (x.branch s0).right.seed (x.branch s1).right.seed ((wide s0).right ∙ sym (wide s1).right))
+      (controls_fixed t (x.branch s0).right.bit (x.branch s1).right.bit)
       ∙ step_sum g.laws t a b (draw_at true s0) (draw_at true s1) r.element
       ∙ gone_signed g.laws t (minus g a b) (draw_at true s0) (draw_at true s1)
 

@@ -66,6 +66,9 @@ impl<G: Copy> Row<G> {
 }
 
 // A table of rows over memory of the caller's.
+// Stays: a function that is handed a table says that the table keeps its memory (the clauses `same`). Given by value, a
+// table that is passed on or let go tells nothing of what was written in it (tried: the proof of such a `deal` doesn't
+// close); with an `impl Model` in place of the clauses, the memory's owner learns nothing of it (tried too).
 #[derive(Drop)]
 pub struct Rows<'a, G> {
     pub rows: &'a mut [Row<G>],
