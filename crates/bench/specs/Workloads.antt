@@ -14,8 +14,8 @@ root first = record { bytes = first ∷ 1 ∷ 2 ∷ 3 ∷ 4 ∷ 5 ∷ 6 ∷ 7 �
 abbrev pub level : Expansion → Seed → Seed
 level x seed =
     let b = x.branch seed in
-    let words = x.draw b.left_value in
-    xor_seeds b.left (root_of (slice_index words 0) (slice_index words 1))
+    let words = x.draw b.left.value in
+    xor_seeds b.left.seed (root_of (slice_index words 0) (slice_index words 1))
 
 -- n levels
 abbrev pub levels : Expansion → ℕ → Seed → Seed

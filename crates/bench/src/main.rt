@@ -1,7 +1,7 @@
 // The benchmark program: checksums alone, or with the argument `time` the time of each workload too.
 #![tactic(auto)]
 
-ghost use Rattle.std.specs.Prelude.{◌≡◌, ◌%◌, ◌^◌, true, length};
+ghost use Rattle.std.specs.Prelude.{◌≡◌, ◌<◌, ℕ, true, length, bit_xor};
 ghost use Rattle.dealing.specs.Dealing.{dealt_last, start};
 ghost use Rattle.evaluation.specs.Evaluation.{evaluated};
 ghost use Rattle.bench.specs.Workloads.{level, levels, place, root, sum_of};
@@ -12,8 +12,8 @@ use dealing::deal;
 use evaluation::answer;
 use expander::{Expander, Seed};
 use gatekeys::root_from;
-use group::{Group, Pair, Quad, Word};
-use key::{BoxNumber, Row, Rows};
+use group::{Group, Pair, Quad, Word, low_half};
+use key::{BoxNumber, KeyEnds, Roots, Row, Rows};
 use std::env;
 use std::time::Instant;
 use tables::blank;
@@ -27,19 +27,15 @@ fn level<X: Expander>(expander: &X, seed: Seed) -> Seed
     ensures { result ≡ level X.Expander.meaning seed }
 {
     let b = expander.branch(seed);
-    let words = expander.draw(b.left_value);
-    b.left.xor(root_from(words[0], words[1]))
+    let words = expander.draw(b.left.value);
+    b.left.seed.xor(root_from(words[0], words[1]))
 }
 
 // A chain of levels.
 fn levels<X: Expander>(expander: &X, first: Seed, count: u32) -> Seed
     ensures { result ≡ levels X.Expander.meaning count first }
 {
-    let mut seed = first;
-    for _level in 0..count {
-        seed = level(expander, seed);
-    }
-    seed
+    (0..count).fold(first, |seed, _| level(expander, seed))
 }
 
 // The bytes first, 1, 2 and so on.
@@ -68,8 +64,11 @@ fn deal_one<X: Expander, G: Group>(
         ≡ dealt_last X.Expander.meaning G.Group.group (G.Group.mean payload) threshold (length memory.old)
         (start G.Group.group (root 0) (root 16)) }
 {
-    let mut rows = Rows::over(memory);
-    deal(expander, threshold, payload, root(0), root(16), &mut rows)
+    let roots = Roots {
+        zero: root(0),
+        one: root(16),
+    };
+    deal(expander, threshold, payload, roots, &mut Rows::over(memory))
 }
 
 // Deals keys, each with another threshold, one over the other; the sum of the final elements.
@@ -96,11 +95,13 @@ fn evaluate_rows<X: Expander, G: Group>(expander: &X, rows: &[Row<G>], last: G, 
         ≡ sum_of G.Group.group (λ i. evaluated X.Expander.meaning G.Group.group G.Group.mean true (root 16)
         rows.now last (place i)) count }
 {
-    let mut all = G::zero();
-    for i in 0..count {
-        all = all.add(answer(expander, BoxNumber::One, root(16), rows, last, place(i)));
-    }
-    all
+    let ends = KeyEnds {
+        root: root(16),
+        last,
+    };
+    (0..count).fold(G::zero(), |all, i| {
+        all.add(answer(expander, BoxNumber::One, ends, rows, place(i)))
+    })
 }
 
 // Deals one key into the memory and evaluates it at many points.
@@ -114,94 +115,114 @@ fn evaluate_key<X: Expander, G: Group>(
     evaluate_rows(expander, memory, last, count)
 }
 
-fn quad(a: u64, b: u64, c: u64, d: u64) -> Quad {
-    Pair {
-        left: Pair {
-            left: Word(a),
-            right: Word(b),
-        },
-        right: Pair {
-            left: Word(c),
-            right: Word(d),
-        },
+// An element as one number: the XOR of its words.
+trait Checksum {
+    ghost checksum: { Self → ℕ };
+
+    fn checksum(self) -> u64
+        ensures { result ≡ checksum self };
+}
+
+impl Checksum for Word {
+    ghost checksum = { λ w. w.0 };
+
+    fn checksum(self) -> u64 {
+        self.0
     }
 }
 
-// The low half of a word, and of the XOR of a quad's words.
-fn word_sum(w: Word) -> u64
-    ensures { result ≡ w.0 % 2 ^ 32 }
-{
-    w.0 % 0x1_0000_0000
-}
+impl<L: Checksum, R: Checksum> Checksum for Pair<L, R> {
+    ghost checksum = { λ p. bit_xor (L.Checksum.checksum p.left) (R.Checksum.checksum p.right) };
 
-fn quad_sum(q: Quad) -> u64 {
-    (q.left.left.0 ^ q.left.right.0 ^ q.right.left.0 ^ q.right.right.0) % 0x1_0000_0000
-}
-
-fn seed_sum(s: Seed) -> u64 {
-    u32::from_be_bytes([s.bytes[0], s.bytes[1], s.bytes[2], s.bytes[3]]) as u64
-}
-
-// Runs one workload by its place in the list.
-fn run(place: u8) -> u64 {
-    match place {
-        0 => seed_sum(levels(&Aes128, root(0), LEVELS)),
-        1 => seed_sum(levels(&ChaCha20, root(0), LEVELS)),
-        2 => word_sum(deal_keys(&Aes128, Word(1), KEYS, &mut [blank(); 32])),
-        3 => word_sum(evaluate_key(&Aes128, Word(1), KEYS, &mut [blank(); 32])),
-        4 => quad_sum(deal_keys(&Aes128, quad(1, 2, 3, 4), KEYS, &mut [blank(); 32])),
-        5 => quad_sum(evaluate_key(&Aes128, quad(1, 2, 3, 4), KEYS, &mut [blank(); 32])),
-        6 => word_sum(deal_keys(&ChaCha20, Word(1), KEYS, &mut [blank(); 32])),
-        7 => word_sum(evaluate_key(&ChaCha20, Word(1), KEYS, &mut [blank(); 32])),
-        8 => quad_sum(deal_keys(&ChaCha20, quad(1, 2, 3, 4), KEYS, &mut [blank(); 32])),
-        _ => quad_sum(evaluate_key(&ChaCha20, quad(1, 2, 3, 4), KEYS, &mut [blank(); 32])),
+    fn checksum(self) -> u64 {
+        self.left.checksum() ^ self.right.checksum()
     }
 }
 
-fn name(place: u8) -> &'static str {
-    match place {
-        0 => "level",
-        1 => "clevel",
-        2 => "deal-words",
-        3 => "evaluate-words",
-        4 => "deal-quad",
-        5 => "evaluate-quad",
-        6 => "cdeal-words",
-        7 => "cevaluate-words",
-        8 => "cdeal-quad",
-        _ => "cevaluate-quad",
-    }
+// A seed's first four bytes, the highest first.
+fn seed_sum(s: Seed) -> u32 {
+    u32::from_be_bytes([s.bytes[0], s.bytes[1], s.bytes[2], s.bytes[3]])
 }
 
-fn per_unit(nanos: u128, place: u8) -> u128 {
-    if place < 2 {
-        nanos / LEVELS as u128
-    } else {
-        nanos / KEYS as u128
-    }
+// Where the workloads' lines are printed, and whether with their times.
+#[derive(Clone, Copy)]
+struct Bench<'a> {
+    rt: &'a HostRuntime,
+    with_time: bool,
 }
 
-fn timed(rt: &HostRuntime) -> anyhow::Result<bool> {
-    for word in env::args(rt)? {
-        if word.as_str() == "time" {
-            return Ok(true);
+impl Bench<'_> {
+    // Runs one workload, and prints its checksum and the time of each of its units.
+    fn report<W: FnOnce() -> u32>(&self, name: &str, units: u32, workload: W) -> anyhow::Result<()>
+        requires some { 0 < units }
+        requires callable { W.IsAlwaysCallable workload }
+    {
+        let start = Instant::now(self.rt)?;
+        let sum = workload();
+        let nanos = start.elapsed(self.rt)?.as_nanos();
+        if self.with_time {
+            println!(self.rt; "rattle {name} {} {sum:08x}", nanos / units as u128)?;
+        } else {
+            println!(self.rt; "{name} {sum:08x}")?;
         }
+        Ok(())
     }
-    Ok(false)
+
+    // A chain of levels.
+    fn levels<X: Expander>(&self, name: &str, expander: &X) -> anyhow::Result<()> {
+        self.report(name, LEVELS, || seed_sum(levels(expander, root(0), LEVELS)))
+    }
+
+    // Keys that are dealt, and one that is evaluated.
+    fn keys<X: Expander, G: Group + Checksum>(
+        &self,
+        deals: &str,
+        evaluates: &str,
+        expander: &X,
+        payload: G,
+        memory: &mut [Row<G>],
+    ) -> anyhow::Result<()> {
+        self.report(deals, KEYS, || {
+            low_half(deal_keys(expander, payload, KEYS, memory).checksum())
+        })?;
+        self.report(evaluates, KEYS, || {
+            low_half(evaluate_key(expander, payload, KEYS, memory).checksum())
+        })
+    }
 }
 
 fn main(rt: HostRuntime) -> anyhow::Result<()> {
-    let with_time = timed(&rt)?;
-    for place in 0..10u8 {
-        let start = Instant::now(&rt)?;
-        let sum = run(place);
-        let nanos = start.elapsed(&rt)?.as_nanos();
-        let workload = name(place);
-        if with_time {
-            println!(rt; "rattle {workload} {} {sum:08x}", per_unit(nanos, place))?;
-        } else {
-            println!(rt; "{workload} {sum:08x}")?;
-        }
-    }
-    Ok(())
+    let with_time = env::args(&rt)?.any(|word| word.as_str() == "time");
+    let bench = Bench { rt: &rt, with_time };
+    let quad = Quad::from([1, 2, 3, 4]);
+    bench.levels("level", &Aes128)?;
+    bench.levels("clevel", &ChaCha20)?;
+    bench.keys(
+        "deal-words",
+        "evaluate-words",
+        &Aes128,
+        Word(1),
+        &mut [blank(); 32],
+    )?;
+    bench.keys(
+        "deal-quad",
+        "evaluate-quad",
+        &Aes128,
+        quad,
+        &mut [blank(); 32],
+    )?;
+    bench.keys(
+        "cdeal-words",
+        "cevaluate-words",
+        &ChaCha20,
+        Word(1),
+        &mut [blank(); 32],
+    )?;
+    bench.keys(
+        "cdeal-quad",
+        "cevaluate-quad",
+        &ChaCha20,
+        quad,
+        &mut [blank(); 32],
+    )
 }

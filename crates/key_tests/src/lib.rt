@@ -6,11 +6,16 @@ mod tests {
     use comparison::{compare, deal_key, evaluate};
     use expander::Seed;
     use group::{Group, Pair, Quad, Word};
-    use key::{BoxNumber, Row, Rows};
+    use key::{BoxNumber, KeyEnds, Roots, Row, Rows};
     use refusal::Refusal;
     use zero::Zero;
 
     const ROOT: Seed = Seed { bytes: [7; 16] };
+
+    const ROOTS: Roots = Roots {
+        zero: ROOT,
+        one: ROOT,
+    };
 
     fn row<G: Group>(element: G) -> Row<G> {
         Row {
@@ -23,10 +28,7 @@ mod tests {
 
     // The number of a refusal, or 0.
     fn refused<T: Drop>(r: Result<T, Refusal>) -> u8 {
-        match r {
-            Ok(_) => 0,
-            Err(e) => e.number(),
-        }
+        r.err().map_or(0, |e| e.number())
     }
 
     fn deal_words(width: u8, threshold: u32, memory: &mut [Row<Word>]) -> u8 {
@@ -35,8 +37,7 @@ mod tests {
             width,
             threshold,
             Word(1),
-            ROOT,
-            ROOT,
+            ROOTS,
             &mut Rows::over(memory),
         ))
     }
@@ -46,9 +47,11 @@ mod tests {
             &Zero,
             BoxNumber::One,
             width,
-            ROOT,
+            KeyEnds {
+                root: ROOT,
+                last: Word(1),
+            },
             &Rows::over(memory),
-            Word(1),
             point,
         ))
     }
@@ -61,8 +64,7 @@ mod tests {
             width,
             threshold,
             Word(1),
-            ROOT,
-            ROOT,
+            ROOTS,
             &mut Rows::over(memory),
             point,
         ))
@@ -103,11 +105,11 @@ mod tests {
         let mut a = [row(eight); 2];
         let mut b = [row(nine); 2];
         assert_eq!(rt;
-            refused(deal_key(&Zero, 2, 1, eight, ROOT, ROOT, &mut Rows::over(&mut a))),
+            refused(deal_key(&Zero, 2, 1, eight, ROOTS, &mut Rows::over(&mut a))),
             0
         );
         assert_eq!(rt;
-            refused(deal_key(&Zero, 2, 1, nine, ROOT, ROOT, &mut Rows::over(&mut b))),
+            refused(deal_key(&Zero, 2, 1, nine, ROOTS, &mut Rows::over(&mut b))),
             44
         );
     }

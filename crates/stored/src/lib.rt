@@ -59,14 +59,13 @@ impl StoredGroup for Word {
     }
 
     fn read(bytes: &[u8]) -> Option<Word> {
-        if bytes.len() != 8 {
-            return None;
-        }
-        Some(Word(eight(bytes)))
+        let word = <[u8; 8]>::try_from(bytes).ok()?;
+        Some(Word(u64::from_le_bytes(word)))
     }
 }
 
 // Flags are 4 bytes, the lowest first.
+// Stays: an impl beside Word's. They are two types, and one impl for all number types would overlap the pair's.
 impl StoredGroup for Flags {
     ghost size = { 4 };
 
@@ -88,10 +87,8 @@ impl StoredGroup for Flags {
     }
 
     fn read(bytes: &[u8]) -> Option<Flags> {
-        if bytes.len() != 4 {
-            return None;
-        }
-        Some(Flags(four(bytes)))
+        let flags = <[u8; 4]>::try_from(bytes).ok()?;
+        Some(Flags(u32::from_le_bytes(flags)))
     }
 }
 
@@ -127,46 +124,15 @@ impl<L: StoredGroup, R: StoredGroup> StoredGroup for Pair<L, R> {
     }
 
     fn write(self, out: &mut [u8]) {
-        let middle = L::size_of();
-        self.left.write(&mut out[0..middle]);
-        self.right.write(&mut out[middle..]);
+        let (left, right) = out.split_at_mut(L::size_of());
+        self.left.write(left);
+        self.right.write(right);
     }
 
     fn read(bytes: &[u8]) -> Option<Pair<L, R>> {
-        let n = L::size_of();
-        if bytes.len() < n {
-            return None;
-        }
-        let left = L::read(&bytes[0..n])?;
-        let right = R::read(&bytes[n..])?;
+        let (left, right) = bytes.split_at_checked(L::size_of())?;
+        let left = L::read(left)?;
+        let right = R::read(right)?;
         Some(Pair { left, right })
     }
-}
-
-// The number that four bytes write, the lowest first.
-fn four(bytes: &[u8]) -> u32
-    requires { length bytes.now ≡ 4 }
-    ensures byte0 { result % 256 ≡ slice_index bytes.now 0 }
-    ensures byte1 { result / 256 % 256 ≡ slice_index bytes.now 1 }
-    ensures byte2 { result / 65536 % 256 ≡ slice_index bytes.now 2 }
-    ensures byte3 { result / 16777216 % 256 ≡ slice_index bytes.now 3 }
-{
-    u32::from_le_bytes([bytes[0], bytes[1], bytes[2], bytes[3]])
-}
-
-// The number that eight bytes write, the lowest first.
-fn eight(bytes: &[u8]) -> u64
-    requires { length bytes.now ≡ 8 }
-    ensures byte0 { result % 256 ≡ slice_index bytes.now 0 }
-    ensures byte1 { result / 256 % 256 ≡ slice_index bytes.now 1 }
-    ensures byte2 { result / 65536 % 256 ≡ slice_index bytes.now 2 }
-    ensures byte3 { result / 16777216 % 256 ≡ slice_index bytes.now 3 }
-    ensures byte4 { result / 4294967296 % 256 ≡ slice_index bytes.now 4 }
-    ensures byte5 { result / 1099511627776 % 256 ≡ slice_index bytes.now 5 }
-    ensures byte6 { result / 281474976710656 % 256 ≡ slice_index bytes.now 6 }
-    ensures byte7 { result / 72057594037927936 % 256 ≡ slice_index bytes.now 7 }
-{
-    u64::from_le_bytes([
-        bytes[0], bytes[1], bytes[2], bytes[3], bytes[4], bytes[5], bytes[6], bytes[7],
-    ])
 }

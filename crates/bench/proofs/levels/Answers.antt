@@ -1,5 +1,10 @@
-use Rattle.std.proofs.Common.{add-one}
+use Rattle.std.proofs.Common.{refl, add-one, rules}
+use Rattle.bench.specs.Workloads.{level, levels}
+use Rattle.bench.proofs.Chain.{counted}
 use Rattle.bench.proofs.levels.Goals as goal
 
-pub loop-level-preserved : goal.loop-level-preserved
-loop-level-preserved g c = rw add-one (cc)
+pub returns : goal.returns
+returns g c =
+    let x = g.X.Expander.meaning in
+    counted (λ s k. level x s) (λ n. levels x n c.args.first) (λ k. rw add-one) _ _ (λ s. s) (λ a b k f call. (search rules, search rules))
+    c.args.count c.args.first c.fold.result refl c.fold.ensures.ran
