@@ -19,20 +19,13 @@ impl RoundKeys {
         RoundKeys { keys }
     }
 
-    fn round_key(&self, i: usize) -> Block
-        requires { i < 11 }
-        ensures { block_bytes result ≡ round_key i (key_of self.now) }
-    {
-        self.keys[i]
-    }
-
     // Rounds 1 to 9.
     fn full_rounds(&self, block: Block) -> Block
         ensures { block_bytes result ≡ full_rounds 9 (key_of self.now) (block_bytes block) }
     {
         let mut state = block;
-        for i in 0..9usize {
-            state = full_round(self.round_key(i + 1), state);
+        for key in &self.keys[1..10] {
+            state = full_round(*key, state);
         }
         state
     }
@@ -40,15 +33,15 @@ impl RoundKeys {
     fn encrypt_block(&self, block: Block) -> Block
         ensures { block_bytes result ≡ cipher (key_of self.now) (block_bytes block) }
     {
-        let state = self.full_rounds(block.add_round_key(self.round_key(0)));
-        last_round(self.round_key(10), state)
+        let state = self.full_rounds(block.add_round_key(self.keys[0]));
+        last_round(self.keys[10], state)
     }
 
     // The encryption of the number j in sixteen bytes, the highest first.
     pub(crate) fn encrypt_number(&self, j: u8) -> [u8; 16]
         ensures { result ≡ cipher (key_of self.now) (number j) }
     {
-        self.encrypt_block(Block(0, 0, 0, j as u32)).to_bytes()
+        self.encrypt_block(Block([0, 0, 0, j as u32])).to_bytes()
     }
 
     pub fn encrypt(&self, block: &[u8; 16]) -> [u8; 16]
@@ -61,18 +54,6 @@ impl RoundKeys {
     pub fn round_keys(&self) -> [[u8; 16]; 11]
         ensures { result ≡ key_expansion (key_of self.now) }
     {
-        [
-            self.round_key(0).to_bytes(),
-            self.round_key(1).to_bytes(),
-            self.round_key(2).to_bytes(),
-            self.round_key(3).to_bytes(),
-            self.round_key(4).to_bytes(),
-            self.round_key(5).to_bytes(),
-            self.round_key(6).to_bytes(),
-            self.round_key(7).to_bytes(),
-            self.round_key(8).to_bytes(),
-            self.round_key(9).to_bytes(),
-            self.round_key(10).to_bytes(),
-        ]
+        self.keys.map(Block::to_bytes)
     }
 }

@@ -1,15 +1,15 @@
 // AES-128 by tables, and the expander of kind 1 that is made of it.
 #![tactic(auto)]
 
-ghost use Rattle.std.specs.Prelude.{◌≡◌, ◌+◌, ◌≤◌, refl};
+ghost use Rattle.std.specs.Prelude.{◌≡◌, refl};
 ghost use Rattle.aes.specs.Keys.{key_of};
 ghost use Rattle.standards.specs.Fips197.{cipher};
-ghost use Rattle.standards.specs.Kinds.{kind1, long_at, number};
+ghost use Rattle.standards.specs.Kinds.{kind1, number};
 ghost use Rattle.standards.proofs.Lengths.{wide1};
 
 use expander::{Branches, Expander, Seed, Side};
 pub use round_keys::RoundKeys;
-use standards::lowest_bit;
+use standards::{long_at, lowest_bit};
 
 mod block;
 mod cipher;
@@ -28,23 +28,6 @@ fn seed_number(keys: &RoundKeys, j: u8) -> Seed
     Seed {
         bytes: keys.encrypt_number(j),
     }
-}
-
-// The word in the eight bytes from byte i on.
-fn word_at(block: &[u8; 16], i: usize) -> u64
-    requires { i + 8 ≤ 16 }
-    ensures { result ≡ long_at i block.now }
-{
-    u64::from_le_bytes([
-        block[i],
-        block[i + 1],
-        block[i + 2],
-        block[i + 3],
-        block[i + 4],
-        block[i + 5],
-        block[i + 6],
-        block[i + 7],
-    ])
 }
 
 impl Expander for Aes128 {
@@ -81,15 +64,16 @@ impl Expander for Aes128 {
         let b = keys.encrypt_number(6);
         let c = keys.encrypt_number(7);
         let d = keys.encrypt_number(8);
+        // Stays: two words of each of four blocks; a loop over blocks and halves would be no plainer.
         [
-            word_at(&a, 0),
-            word_at(&a, 8),
-            word_at(&b, 0),
-            word_at(&b, 8),
-            word_at(&c, 0),
-            word_at(&c, 8),
-            word_at(&d, 0),
-            word_at(&d, 8),
+            long_at(&a, 0),
+            long_at(&a, 8),
+            long_at(&b, 0),
+            long_at(&b, 8),
+            long_at(&c, 0),
+            long_at(&c, 8),
+            long_at(&d, 0),
+            long_at(&d, 8),
         ]
     }
 }

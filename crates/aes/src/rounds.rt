@@ -6,17 +6,17 @@ ghost use Rattle.std.specs.Prelude.{◌≡◌, ◌/◌, ◌%◌, [], ◌∷◌};
 ghost use Rattle.aes.specs.Blocks.{block_bytes, word_bytes, shifted_column, mixed_column};
 ghost use Rattle.standards.specs.Fips197.{full_round, last_round, sub_word, xor};
 
-use crate::block::{Block, first_byte, fourth_byte, second_byte, third_byte};
-use crate::tables::{mixed_row_0, mixed_row_1, mixed_row_2, mixed_row_3, substituted};
+use crate::block::Block;
+use crate::tables::{mixed_row, substituted};
 
 // A column of a round: shifted, substituted and mixed, and a word of the round key added.
 fn round_column(a: u32, b: u32, c: u32, d: u32, key: u32) -> u32
     ensures { word_bytes result ≡ xor (mixed_column a b c d) (word_bytes key) }
 {
-    mixed_row_0(first_byte(a))
-        ^ mixed_row_1(second_byte(b))
-        ^ mixed_row_2(third_byte(c))
-        ^ mixed_row_3(fourth_byte(d))
+    mixed_row::<0>(a.to_be_bytes()[0])
+        ^ mixed_row::<1>(b.to_be_bytes()[1])
+        ^ mixed_row::<2>(c.to_be_bytes()[2])
+        ^ mixed_row::<3>(d.to_be_bytes()[3])
         ^ key
 }
 
@@ -25,31 +25,37 @@ fn last_column(a: u32, b: u32, c: u32, d: u32, key: u32) -> u32
     ensures { word_bytes result ≡ xor (sub_word (shifted_column a b c d)) (word_bytes key) }
 {
     u32::from_be_bytes([
-        substituted(first_byte(a)),
-        substituted(second_byte(b)),
-        substituted(third_byte(c)),
-        substituted(fourth_byte(d)),
+        substituted(a.to_be_bytes()[0]),
+        substituted(b.to_be_bytes()[1]),
+        substituted(c.to_be_bytes()[2]),
+        substituted(d.to_be_bytes()[3]),
     ]) ^ key
 }
 
+// Stays: the two rounds differ in the function of a column; one function that takes it would have to state its four
+// calls by `post`, which is no plainer.
 pub fn full_round(key: Block, s: Block) -> Block
     ensures { block_bytes result ≡ full_round (block_bytes key) (block_bytes s) }
 {
-    Block(
-        round_column(s.0, s.1, s.2, s.3, key.0),
-        round_column(s.1, s.2, s.3, s.0, key.1),
-        round_column(s.2, s.3, s.0, s.1, key.2),
-        round_column(s.3, s.0, s.1, s.2, key.3),
-    )
+    let [a, b, c, d] = s.0;
+    let [j, k, l, m] = key.0;
+    Block([
+        round_column(a, b, c, d, j),
+        round_column(b, c, d, a, k),
+        round_column(c, d, a, b, l),
+        round_column(d, a, b, c, m),
+    ])
 }
 
 pub fn last_round(key: Block, s: Block) -> Block
     ensures { block_bytes result ≡ last_round (block_bytes key) (block_bytes s) }
 {
-    Block(
-        last_column(s.0, s.1, s.2, s.3, key.0),
-        last_column(s.1, s.2, s.3, s.0, key.1),
-        last_column(s.2, s.3, s.0, s.1, key.2),
-        last_column(s.3, s.0, s.1, s.2, key.3),
-    )
+    let [a, b, c, d] = s.0;
+    let [j, k, l, m] = key.0;
+    Block([
+        last_column(a, b, c, d, j),
+        last_column(b, c, d, a, k),
+        last_column(c, d, a, b, l),
+        last_column(d, a, b, c, m),
+    ])
 }

@@ -31,6 +31,7 @@ pub fn quarter_round_at(state: &mut [u32; 16], x: usize, y: usize, z: usize, w: 
     state[w % 16] = d;
 }
 
+// Stays: four columns and four diagonals, as the standard lists them; a table of places would be no plainer.
 fn double_round(state: &mut [u32; 16])
     ensures { state.new ≡ double_round state.old }
 {

@@ -1,3 +1,4 @@
 pub mod Tables
 pub mod Printed
 pub mod Lengths
+pub mod Written

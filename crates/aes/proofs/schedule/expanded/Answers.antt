@@ -5,10 +5,10 @@ use Rattle.standards.proofs.Printed.{rcon_entry}
 use Rattle.aes.proofs.schedule.expanded.Goals as goal
 
 -- one more round key
-next : (i constant : ℕ) (key last new : List ℕ) → i < 10 → constant ≡ get_or rcon_table i 0 → last ≡ round_key i key
-    → new ≡ next_round_key constant last → new ≡ round_key (i + 1) key
+next : (i : ℕ) (key last new : List ℕ) → i < 10 → last ≡ round_key i key
+    → new ≡ next_round_key (get_or rcon_table i 0) last → new ≡ round_key (i + 1) key
 unfolding round_key
-next i constant key last new h k l n = let r = rcon_entry i h in let e = add-one i in cc
+next i key last new h l n = let r = rcon_entry i h in let e = add-one i in cc
 
 pub loop-round-init : goal.loop-round-init
 unfolding round_key
@@ -19,7 +19,7 @@ loop-round-preserved c =
     let i : ℕ = c.loop-round.round in
     let lt : i + 1 < length c.loop-round.keys = omega arith in
     let new : block_bytes c.next_round_key-last.result ≡ round_key (i + 1) (block_bytes c.args.key) =
-    next i _ _ _ _ c.loop-round-test.true c.round_constant.ensures c.loop-round.invariant.0 c.next_round_key-last.ensures in (
+    next i _ _ _ c.loop-round-test.true c.loop-round.invariant.0 c.next_round_key-last.ensures in (
       new,
       below_more _ _
           (λ k h. let ne : k ≢ i + 1 = omega arith in rw get_or-set_other (c.loop-round.invariant.1 k h))

@@ -1,4 +1,4 @@
-use Rattle.std.proofs.Common.{◌≡◌, ℕ, List, refl}
+use Rattle.std.proofs.Common.{◌≡◌, ℕ, List, get_or, refl}
 use lib.Bits.{bit_xor}
 use Rattle.aes.specs.Blocks.{word_bytes, block_bytes}
 use Rattle.standards.specs.Fips197.{schedule_core, next_round_key, xor}
@@ -8,10 +8,10 @@ use Rattle.aes.proofs.schedule.next_round_key.Goals as goal
 pub returns : goal.returns
 unfolding block_bytes next_round_key schedule_core
 returns c =
-    let k0 : ℕ = c.args.key.0 in
-    let k1 : ℕ = c.args.key.1 in
-    let k2 : ℕ = c.args.key.2 in
-    let k3 : ℕ = c.args.key.3 in
+    let k0 : ℕ = get_or c.args.key.0 0 0 in
+    let k1 : ℕ = get_or c.args.key.0 1 0 in
+    let k2 : ℕ = get_or c.args.key.0 2 0 in
+    let k3 : ℕ = get_or c.args.key.0 3 0 in
     let t : ℕ = c.schedule_core.result in
     let core : List ℕ = schedule_core c.args.constant (word_bytes k3) in
     let a : List ℕ = xor (word_bytes k0) core in

@@ -1,4 +1,4 @@
-use Rattle.std.proofs.Common.{ℕ, ◌<◌, sym, ap, ◌∙◌, arith}
+use Rattle.std.proofs.Common.{ℕ, ◌<◌, List, get_or, sym, ap, ◌∙◌, arith}
 use lib.Bits.{bit_xor, xor_zero_r, xor_lt}
 use Rattle.aes.specs.Blocks.{word_bytes}
 use Rattle.standards.specs.Fips197.{s_box, schedule_core}
@@ -13,9 +13,10 @@ returns c =
     let h = bytes_of_join
     (bit_xor c.substituted.result k) c.substituted-2.result c.substituted-3.result c.substituted-4.result
     (xor_lt 8 c.substituted.result k c.substituted.type_inv small) c.substituted-2.type_inv c.substituted-3.type_inv c.substituted-4.type_inv in
+    let at : (i : ℕ) → List ℕ → ℕ = λ i l. s_box (get_or l i 0) in
     ap word_bytes c.from_be_bytes.ensures ∙ h ∙
     four_bytes _ _ _ _ _ _ _ _
-    (ap (λ (x : ℕ). bit_xor x k) (c.substituted.ensures ∙ ap s_box c.second_byte.ensures))
-    (c.substituted-2.ensures ∙ ap s_box c.third_byte.ensures ∙ sym (xor_zero_r _))
-    (c.substituted-3.ensures ∙ ap s_box c.fourth_byte.ensures ∙ sym (xor_zero_r _))
-    (c.substituted-4.ensures ∙ ap s_box c.first_byte.ensures ∙ sym (xor_zero_r _))
+    (ap (λ (x : ℕ). bit_xor x k) (c.substituted.ensures ∙ ap (at 1) c.to_be_bytes.ensures))
+    (c.substituted-2.ensures ∙ ap (at 2) c.to_be_bytes.ensures ∙ sym (xor_zero_r _))
+    (c.substituted-3.ensures ∙ ap (at 3) c.to_be_bytes.ensures ∙ sym (xor_zero_r _))
+    (c.substituted-4.ensures ∙ ap (at 0) c.to_be_bytes.ensures ∙ sym (xor_zero_r _))

@@ -9,7 +9,7 @@ use Rattle.aes.proofs.round_keys.RoundKeys.encrypt_number.Goals as goal
 small : (j : ℕ) → j < 256 → word_bytes j ≡ 0 ∷ 0 ∷ 0 ∷ j ∷ []
 small j h = four_bytes _ _ _ _ _ _ _ _ (omega arith) (omega arith) (omega arith) (omega arith)
 
-number_bytes : (j : ℕ) → j < 256 → block_bytes (record { 0 = 0; 1 = 0; 2 = 0; 3 = j }) ≡ number j
+number_bytes : (j : ℕ) → j < 256 → block_bytes (record { 0 = 0 ∷ 0 ∷ 0 ∷ j ∷ [] }) ≡ number j
 unfolding block_bytes
 number_bytes j h = ap (λ (l : List ℕ). word_bytes 0 ++ (word_bytes 0 ++ (word_bytes 0 ++ l))) (small j h)
 

@@ -4,5 +4,5 @@ use Rattle.aes.specs.Keys.{key_of}
 use Rattle.standards.specs.Fips197.{full_rounds}
 use Rattle.aes.proofs.round_keys.RoundKeys.full_rounds.Given as goal
 
-abbrev pub invariant-loop-i : goal.invariant-loop-i
-invariant-loop-i l = block_bytes l.state ≡ full_rounds l.i (key_of l.self) (block_bytes l.initial.state)
+abbrev pub invariant-loop-key : goal.invariant-loop-key
+invariant-loop-key l = block_bytes l.state ≡ full_rounds l.key-index (key_of l.self) (block_bytes l.initial.state)
