@@ -1,6 +1,5 @@
 -- The rows of a key, asked one by one.
 use Rattle.std.proofs.Common.{◌≡◌, ℕ, zero, suc, ◌+◌, ◌*◌, ◌<◌, Bool, true, false, ◌&&◌, leb, List, get_or, refl, ap, ◌∙◌, sym, arith}
-use Rattle.std.proofs.lemmas.Bool.{and_parts}
 use Rattle.bodies.specs.Bodies.{rows_fit}
 
 module _ (size : ℕ) (key : List ℕ) where
@@ -38,5 +37,5 @@ module _ (size : ℕ) (key : List ℕ) where
 
 -- an answer that is right where it is yes and where it is no
 pub told : (r f : Bool) → (r ≡ true → f ≡ true) → (r ≡ false → f ≡ false) → r ≡ f
-told true f yes no = sym (yes refl)
-told false f yes no = sym (no refl)
+told true f t u = sym (t refl)
+told false f t u = sym (u refl)

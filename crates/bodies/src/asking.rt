@@ -3,7 +3,8 @@ ghost use Rattle.std.specs.Prelude.{◌≡◌, ◌^◌, ◌<◌};
 ghost use Rattle.bodies.specs.Bodies.{rows_fit, shift_key_fits, key_fits, mask_fits, rest_fits, gate_fits, input_fits};
 
 use crate::GateHead;
-use crate::reading::{after, byte_in, head_in, number_in, rest_in, shown_in};
+use crate::reading::{byte_in, head_in, number_in, rest_in, shown_in};
+use layout::after;
 use plan::{below, compared_long};
 
 // Is the byte of bits at most 3, left + 2 × right, in each of so many rows from a place on?

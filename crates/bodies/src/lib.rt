@@ -5,8 +5,9 @@ mod asking;
 mod reading;
 
 pub use asking::{gate_fits, input_fits};
+pub use layout::after;
 pub use plan::GateHead;
-pub use reading::{after, byte_in, gate_in, head_in, input_in, key_in, number_in, part_of};
+pub use reading::{byte_in, gate_in, head_in, input_in, key_in, number_in, part_of};
 
 // What a body says of its wire, without the key.
 #[derive(Clone, Copy)]

@@ -1,11 +1,12 @@
 // What a reader finds in bytes: numbers, parts, and what a wire's body says.
-ghost use Rattle.std.specs.Prelude.{◌≡◌, drop, slice_index};
+ghost use Rattle.std.specs.Prelude.{◌≡◌, slice_index};
 ghost use Rattle.layout.specs.Bytes.{number_at};
 ghost use Rattle.bodies.specs.Parts.{part};
 ghost use Rattle.bodies.specs.Heads.{lone, head_of};
 ghost use Rattle.bodies.specs.Bodies.{shown_in, rest_in, head_in, key_in, gate_in, input_in};
 
 use crate::{GateHead, WireBody};
+use layout::after;
 use plan::GateKind;
 
 // The byte at a place; 0 past the end.
@@ -13,13 +14,6 @@ pub fn byte_in(bytes: &[u8], at: usize) -> u8
     ensures { result ≡ slice_index bytes.now at }
 {
     bytes.get(at).copied().unwrap_or(0)
-}
-
-// What follows the first n bytes.
-pub fn after(bytes: &[u8], n: usize) -> &[u8]
-    ensures { result.now ≡ drop n bytes.now }
-{
-    bytes.get(n..).unwrap_or(&[])
 }
 
 // The number that four bytes write from a place on, with 0 for bytes past the end.

@@ -13,9 +13,8 @@ use Rattle.layout.specs.Wires.{Gate, gate_key_bytes}
 use Rattle.layout.specs.Books.{wire_count}
 use Rattle.bodies.specs.declared.WireBody.{WireBody}
 use Rattle.bodies.specs.declared.WireBody.TheVariants as body
-use Rattle.plan.specs.Gates.{GateHead}
+use Rattle.plan.specs.Gates.{GateHead, gives_flag, reads, is_keyed}
 use Rattle.plan.specs.declared.gates.Gate.TheVariants.{Sum, Scale, Product, Piece, Flag, Shift, SignedShift, Xor}
-use Rattle.bodies.specs.Heads.{gives_flag}
 use Rattle.bodies.specs.Bodies.{head_in, key_in}
 use Rattle.bodies.specs.Allowed.{head, key_allowed}
 use Rattle.reader.specs.Reading.{header_in, body_in, wire_in}
@@ -38,26 +37,6 @@ abbrev pub owner_of : WireBody → BoxNumber
 owner_of (body.Input owner mask) = box_of owner
 owner_of (body.Gate shown g) = Zero
 
-abbrev pub head_reads : GateHead → List ℕ
-head_reads (Sum a b) = a ∷ b ∷ []
-head_reads (Scale a c d) = a ∷ []
-head_reads (Product a b) = a ∷ b ∷ []
-head_reads (Piece a p q _) = a ∷ []
-head_reads (Flag a p q _) = a ∷ []
-head_reads (Shift a s) = a ∷ []
-head_reads (SignedShift a s) = a ∷ []
-head_reads (Xor a b) = a ∷ b ∷ []
-
-abbrev pub head_keyed : GateHead → Bool
-head_keyed (Sum a b) = false
-head_keyed (Scale a c d) = false
-head_keyed (Product a b) = true
-head_keyed (Piece a p q _) = true
-head_keyed (Flag a p q _) = true
-head_keyed (Shift a s) = true
-head_keyed (SignedShift a s) = true
-head_keyed (Xor a b) = false
-
 -- the held value of a local gate, from the held values that it reads
 abbrev pub head_local : ℕ → GateHead → List ℕ → ℕ
 head_local n (Sum a b) hs = sum_of (2 ^ n) (slice_index hs 0) (slice_index hs 1)
@@ -72,11 +51,11 @@ head_local n (Xor a b) hs = xor_of (slice_index hs 0) (slice_index hs 1)
 -- an input reads nothing, has no key and is not shown
 abbrev pub reads_of : WireBody → List ℕ
 reads_of (body.Input owner mask) = []
-reads_of (body.Gate shown g) = head_reads g
+reads_of (body.Gate shown g) = reads g
 
 abbrev pub keyed_of : WireBody → Bool
 keyed_of (body.Input owner mask) = false
-keyed_of (body.Gate shown g) = head_keyed g
+keyed_of (body.Gate shown g) = is_keyed g
 
 abbrev pub given : Option ℕ → Bool
 given None = false

@@ -1,4 +1,4 @@
-// What gates are given: intervals and shifts that are allowed, and what random words become.
+// What gates are given: intervals and shifts that are allowed, the gates that have a key, and what random words become.
 #![tactic(auto)]
 
 ghost use Rattle.std.specs.Prelude.{◌≡◌};
@@ -9,8 +9,10 @@ use expander::Seed;
 use masking::Width;
 use refusal::Refusal;
 
+mod keyed;
 mod ranges;
 
+pub use keyed::{FlagGate, PieceGate, ProductGate, ShiftGate, Sign};
 pub use ranges::{Interval, Shift};
 
 impl Interval {
@@ -49,7 +51,7 @@ impl Shift {
     pub fn new(width: Width, by: u8) -> Result<Shift, Refusal>
         ensures { view_answer shift_view result ≡ shift_answer width.bits by }
     {
-        if by >= 1 && by < width.bits() {
+        if (1..width.bits()).contains(&by) {
             Ok(Shift { width, by })
         } else {
             Err(Refusal::PlanFields)
@@ -73,9 +75,8 @@ impl Shift {
 pub fn root_from(first: u64, second: u64) -> Seed
     ensures { result ≡ root_of first second }
 {
-    let [a, b, c, d, e, f, g, h] = first.to_le_bytes();
-    let [i, j, k, l, m, n, o, p] = second.to_le_bytes();
-    Seed {
-        bytes: [a, b, c, d, e, f, g, h, i, j, k, l, m, n, o, p],
-    }
+    let mut bytes = [0; 16];
+    bytes[..8].copy_from_slice(&first.to_le_bytes());
+    bytes[8..].copy_from_slice(&second.to_le_bytes());
+    Seed { bytes }
 }

@@ -2,7 +2,7 @@
 ghost use Rattle.std.specs.Prelude.{◌≡◌};
 ghost use Rattle.key.specs.Rows.{is_one};
 ghost use Rattle.masking.specs.Masking.{size};
-ghost use Rattle.interval.specs.Interval.{threshold, point, after, masked, taken, net, extra};
+ghost use Rattle.interval.specs.Interval.{threshold, point, after, taken, net, extra};
 ghost use Rattle.shares.specs.Splits.{part_of_element};
 
 use gatekeys::Interval;
@@ -10,38 +10,34 @@ use group::{Group, difference};
 use key::BoxNumber;
 use masking::Width;
 
+// Stays: these three are no methods of `Width`, whose crate knows no keys; a trait for them would be no plainer.
+
 // The comparison key's threshold for a mask.
 pub fn threshold_for(width: Width, mask: u32) -> u32
     ensures { result ≡ threshold (size width) mask }
 {
-    width.reduce(mask as u64 + (width.size() - 1))
+    width.reduce(u64::from(mask) + (width.size() - 1))
 }
 
 // Where the key is asked about an end.
 pub fn point_for(width: Width, m: u32, end: u32) -> u32
     ensures { result ≡ point (size width) m end }
 {
-    width.reduce(m as u64 + (width.size() - 1).saturating_sub(end as u64))
+    width.reduce(u64::from(m) + (width.size() - 1).saturating_sub(u64::from(end)))
 }
 
 // The number after an end; after the last one it is 0.
 pub fn after_end(width: Width, end: u32) -> u32
     ensures { result ≡ after (size width) end }
 {
-    width.reduce(end as u64 + 1)
-}
-
-fn with_mask(width: Width, mask: u32, end: u32) -> u32
-    ensures { result ≡ masked (size width) mask end }
-{
-    width.reduce(end as u64 + mask as u64)
+    width.reduce(u64::from(end) + 1)
 }
 
 // An element once, or not at all.
 pub fn once<G: Group>(yes: bool, element: G) -> G
     ensures { G.Group.mean result ≡ taken G.Group.group yes (G.Group.mean element) }
 {
-    if yes { element } else { G::zero() }
+    yes.then_some(element).unwrap_or(G::zero())
 }
 
 // An element once, less once.
@@ -58,12 +54,12 @@ pub fn extra_for<G: Group>(interval: Interval, mask: u32, payload: G) -> G
 {
     let width = interval.width();
     let low = interval.low();
-    let from = with_mask(width, mask, low);
-    let to = with_mask(width, mask, interval.high());
+    let from = width.sum(low, mask);
+    let to = width.sum(interval.high(), mask);
     let next = after_end(width, interval.high());
-    let past = with_mask(width, mask, next);
+    let past = width.sum(next, mask);
     let wraps = once_less(to < from, low < from, payload);
-    let ends = to as u64 == width.size() - 1;
+    let ends = u64::from(to) == width.size() - 1;
     wraps
         .add(once(next < past, payload))
         .add(once(ends, payload))

@@ -10,9 +10,7 @@ mod splits;
 
 pub use counts::{after_end, extra_for, once, once_less, part_of, point_for, threshold_for};
 pub use flag::flag_share;
-pub use piece::{payload_for, piece_share, quad_of};
+pub use piece::{payload_for, piece_share};
 pub use product::product_share;
-pub use shift::{
-    low_bits, low_key_payload, rest_for, shift_share, signed_point, signed_share, step_count,
-};
-pub use splits::{flags_part, low_half, number_part};
+pub use shift::{low_bits, low_key_payload, point_at, rest_for, shift_share, step_count};
+pub use splits::{flags_part, number_part};

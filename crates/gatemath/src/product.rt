@@ -12,9 +12,11 @@ use masking::Width;
 pub fn product_share(number: BoxNumber, width: Width, m: u32, k: u32, a: u32, b: u32, c: u32) -> u32
     ensures { result ≡ product_share (is_one number) (size width) m k a b c }
 {
+    let mb = width.scale_mask(m, b);
+    let ka = width.scale_mask(k, a);
+    let mk = width.reduce(number_if(number.is_one(), u64::from(m) * u64::from(k)));
     let size = width.size();
-    let mb = width.reduce(m as u64 * b as u64) as u64;
-    let ka = width.reduce(k as u64 * a as u64) as u64;
-    let mk = width.reduce(number_if(number.is_one(), m as u64 * k as u64)) as u64;
-    width.reduce(c as u64 + mk + (size - mb) + (size - ka))
+    width.reduce(
+        u64::from(c) + u64::from(mk) + (size - u64::from(mb)) + (size - u64::from(ka)),
+    )
 }

@@ -1,13 +1,14 @@
 // The numbers of the shifts: thresholds, payloads, and a box's share.
-ghost use Rattle.std.specs.Prelude.{◌≡◌, cond, ◌+◌, ◌-◌, ◌%◌, ◌/◌, ◌^◌, ◌<◌};
+ghost use Rattle.std.specs.Prelude.{◌≡◌, cond, ◌+◌, ◌%◌, ◌/◌, ◌^◌, ◌<◌};
 ghost use Rattle.key.specs.Rows.{is_one};
 ghost use Rattle.masking.specs.Masking.{size};
 ghost use Rattle.shares.specs.Words.{word};
-ghost use Rattle.shares.specs.Shifts.{low_payload, shift_rest, shift_share, signed_held, signed_share};
+ghost use Rattle.shares.specs.Shifts.{low_payload, shift_rest};
 ghost use Rattle.gatemath.specs.Elements.{step_of, word_mean};
+ghost use Rattle.gatemath.specs.Signs.{asked_at, half_steps, share_by};
 
 use crate::splits::number_if;
-use gatekeys::Shift;
+use gatekeys::{Shift, Sign};
 use group::Word;
 use key::BoxNumber;
 use masking::Width;
@@ -16,25 +17,25 @@ use masking::Width;
 fn step_size(shift: Shift) -> u64
     ensures { result ≡ step_of shift }
 {
-    1u64 << shift.by()
+    1 << shift.by()
 }
 
 // The output mask less floor(r / S).
 pub fn rest_for(shift: Shift, mask: u32, out: u32) -> u64
     ensures { result ≡ shift_rest (size shift.width) (step_of shift) mask out }
 {
-    out as u64
+    u64::from(out)
         + shift
             .width()
             .size()
-            .saturating_sub(mask as u64 / step_size(shift))
+            .saturating_sub(u64::from(mask) / step_size(shift))
 }
 
 // A number modulo one step: the low key's threshold for a mask, and its point for a held value.
 pub fn low_bits(shift: Shift, number: u32) -> u32
     ensures { result ≡ number % step_of shift }
 {
-    (number as u64 % step_size(shift)) as u32
+    (u64::from(number) % step_size(shift)) as u32
 }
 
 // The high key's payload: how many steps there are.
@@ -44,59 +45,51 @@ pub fn step_count(shift: Shift) -> u64
     shift.width().size() / step_size(shift)
 }
 
+// The held value that a shift's keys are asked about: half of all numbers further on where values are signed.
+pub fn point_at(sign: Sign, width: Width, m: u32) -> u32
+    ensures { result ≡ asked_at sign (size width) m }
+{
+    match sign {
+        Sign::Unsigned => m,
+        Sign::Signed => width.reduce(u64::from(m) + width.size() / 2),
+    }
+}
+
+// What takes back the half that `point_at` added: N less its steps.
+fn half_back(sign: Sign, shift: Shift) -> u64
+    ensures is { result ≡ half_steps sign (size shift.width) (step_of shift) }
+    ensures small { result < 2 ^ 33 }
+{
+    let size = shift.width().size();
+    let half = size / 2 / step_size(shift);
+    match sign {
+        Sign::Unsigned => 0,
+        Sign::Signed => size.saturating_sub(half),
+    }
+}
+
 // The quotient by one step.
 fn steps_in(shift: Shift, number: u32) -> u64
     ensures is { result ≡ number / step_of shift }
     ensures small { result < 2 ^ 32 }
 {
-    number as u64 / step_size(shift)
+    u64::from(number) / step_size(shift)
 }
 
-// What box 1 adds to a shift: floor(m / S).
-fn more_for(number: BoxNumber, shift: Shift, m: u32) -> u64
-    ensures is { result ≡ cond (is_one number) (m / step_of shift) 0 }
+// What box 1 adds to a shift: the steps in the held value that the keys are asked about, less those of a half that it has
+// on top.
+fn more_for(sign: Sign, number: BoxNumber, shift: Shift, m: u32) -> u64
+    ensures is { result ≡ cond (is_one number)
+        (asked_at sign (size shift.width) m / step_of shift + half_steps sign (size shift.width) (step_of shift)) 0 }
     ensures small { result < 2 ^ 34 }
 {
-    number_if(number.is_one(), steps_in(shift, m))
+    let at = point_at(sign, shift.width(), m);
+    number_if(number.is_one(), steps_in(shift, at) + half_back(sign, shift))
 }
 
-// What box 1 adds to a signed shift: floor(k / S) less the steps of one half.
-fn signed_more_for(number: BoxNumber, shift: Shift, k: u32) -> u64
-    ensures is { result ≡ cond (is_one number) (k / step_of shift + (size shift.width - size shift.width / 2 / step_of shift)) 0 }
-    ensures small { result < 2 ^ 34 }
-{
-    let size = shift.width().size();
-    let half = size / 2 / step_size(shift);
-    number_if(
-        number.is_one(),
-        steps_in(shift, k) + size.saturating_sub(half),
-    )
-}
-
-// Two answers, the rest, and what box 1 adds, modulo N.
-fn four_added(width: Width, low: Word, high: Word, rest: u32, more: u64) -> u32
-    requires { more < 2 ^ 34 }
-    ensures { result ≡ ((word_mean low).0 % size width + (word_mean high).0 % size width + rest + more) % size width }
-{
-    width.reduce(width.reduce(low.0) as u64 + width.reduce(high.0) as u64 + rest as u64 + more)
-}
-
-// A box's share of a shift, from its keys' answers and its part of the rest.
-pub fn shift_share(number: BoxNumber, shift: Shift, m: u32, low: Word, high: Word, rest: u32) -> u32
-    ensures { result ≡ shift_share (is_one number) (size shift.width) (step_of shift) m (word_mean low).0 (word_mean high).0 rest }
-{
-    four_added(shift.width(), low, high, rest, more_for(number, shift, m))
-}
-
-// The held value that a signed shift's keys are asked about.
-pub fn signed_point(width: Width, m: u32) -> u32
-    ensures { result ≡ signed_held (size width) m }
-{
-    width.reduce(m as u64 + width.size() / 2)
-}
-
-// A box's share of a signed shift, from its keys' answers at the signed point and its part of the rest.
-pub fn signed_share(
+// A box's share of a shift, from its keys' answers, where they are asked about the held value m, and its part of the rest.
+pub fn shift_share(
+    sign: Sign,
     number: BoxNumber,
     shift: Shift,
     m: u32,
@@ -104,10 +97,11 @@ pub fn signed_share(
     high: Word,
     rest: u32,
 ) -> u32
-    ensures { result ≡ signed_share (is_one number) (size shift.width) (step_of shift) m (word_mean low).0 (word_mean high).0 rest }
+    ensures { result ≡ share_by sign (is_one number) (size shift.width) (step_of shift) m (word_mean low).0 (word_mean high).0 rest }
 {
-    let more = signed_more_for(number, shift, signed_point(shift.width(), m));
-    four_added(shift.width(), low, high, rest, more)
+    let width = shift.width();
+    let answers = u64::from(width.reduce(low.0)) + u64::from(width.reduce(high.0));
+    width.reduce(answers + u64::from(rest) + more_for(sign, number, shift, m))
 }
 
 // The low key's payload: −1.

@@ -1,9 +1,11 @@
 // A box's part of what is split, and what one box adds alone.
-ghost use Rattle.std.specs.Prelude.{◌≡◌, cond, ◌%◌, ◌^◌};
+ghost use Rattle.std.specs.Prelude.{◌≡◌, cond};
 ghost use Rattle.key.specs.Rows.{is_one};
 ghost use Rattle.masking.specs.Masking.{size};
 ghost use Rattle.shares.specs.Splits.{part_of_number, part_of_flags};
 
+use crate::counts::part_of;
+use group::{Flags, low_half};
 use key::BoxNumber;
 use masking::Width;
 
@@ -15,28 +17,20 @@ pub fn number_part(width: Width, number: BoxNumber, all: u64, random: u64) -> u3
     if number.is_one() {
         drawn
     } else {
-        width.reduce(width.reduce(all) as u64 + (width.size() - drawn as u64))
+        width.difference(width.reduce(all), drawn)
     }
-}
-
-// A random word as flags: its low half.
-pub fn low_half(word: u64) -> u32
-    ensures { result ≡ word % 2 ^ 32 }
-{
-    (word % 0x1_0000_0000) as u32
 }
 
 // A box's part of flags: box 1 has the random word's low half, box 0 the XOR.
 pub fn flags_part(number: BoxNumber, all: u32, random: u64) -> u32
     ensures { result ≡ part_of_flags (is_one number) all random }
 {
-    let drawn = low_half(random);
-    if number.is_one() { drawn } else { all ^ drawn }
+    part_of(number, Flags(all), Flags(low_half(random))).0
 }
 
 // A number if a test holds, otherwise 0.
 pub(crate) fn number_if(yes: bool, number: u64) -> u64
     ensures { result ≡ cond yes number 0 }
 {
-    if yes { number } else { 0 }
+    yes.then_some(number).unwrap_or(0)
 }

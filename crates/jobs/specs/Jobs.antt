@@ -1,16 +1,23 @@
 -- The job that a gate's order asks for, as its width and its body with the masks below N.
-use Rattle.std.specs.Prelude.{ℕ, ◌%◌, ◌^◌, Bool, true, ◌&&◌, [], ◌∷◌, Result, nat_le, nat_lt}
+use Rattle.std.specs.Prelude.{ℕ, ◌%◌, ◌^◌, Bool, true, ◌&&◌, List, [], ◌∷◌, Result, nat_le, nat_lt}
 use Rattle.refusal.specs.declared.Refusal.{Refusal}
 use Rattle.refusal.specs.declared.Refusal.TheVariants.{PlanFields}
 use Rattle.refusal.specs.Questions.{answered}
 use Rattle.masking.specs.Masking.{allowed}
+use Rattle.gatekeys.specs.declared.keyed.Sign.{Sign}
+use Rattle.gatekeys.specs.declared.keyed.Sign.TheVariants.{Unsigned, Signed}
 use Rattle.orders.specs.Grammar.{and_then}
 use Rattle.orders.specs.declared.types.GateBody.{GateBody}
 use Rattle.orders.specs.declared.types.GateBody.TheVariants as gate
 use Rattle.orders.specs.declared.types.GateOrder.{GateOrder}
 use Rattle.jobs.specs.declared.Job.{Job}
-use Rattle.jobs.specs.declared.Job.TheVariants.{Piece, Flag, Shift, Signed, Product, Local}
+use Rattle.jobs.specs.declared.Job.TheVariants.{Piece, Flag, Shift, Product, Local}
 use Rattle.jobs.specs.declared.LocalJob.TheVariants.{Sum, Scale, Xor}
+
+-- a shift, written as a body
+abbrev pub shift_body : Sign → ℕ → ℕ → List ℕ → GateBody
+shift_body Unsigned mask by words = gate.Shift mask by words
+shift_body Signed mask by words = gate.Signed mask by words
 
 -- a job, written as a width and a body
 abbrev pub job_view : Job → ℕ × GateBody
@@ -18,9 +25,8 @@ job_view (Piece j) =
     (j.interval.width.bits, gate.Piece j.mask j.interval.low j.interval.high j.coefficients j.words)
 job_view (Flag j) =
     (j.interval.width.bits, gate.Flag j.mask j.interval.low j.interval.high j.pattern j.words)
-job_view (Shift j) = (j.shift.width.bits, gate.Shift j.mask j.shift.by j.words)
-job_view (Signed j) = (j.shift.width.bits, gate.Signed j.mask j.shift.by j.words)
-job_view (Product j) = (j.width.bits, gate.Product j.mask j.mask2 j.words)
+job_view (Shift j) = (j.shift.width.bits, shift_body j.sign j.mask j.shift.by j.words)
+job_view (Product j) = (j.width.bits, gate.Product j.mask_a j.mask_b j.words)
 job_view (Local (Sum w a b)) = (w.bits, gate.Sum a b)
 job_view (Local (Scale w a c d)) = (w.bits, gate.Scale a c d)
 job_view (Local (Xor w a b)) = (w.bits, gate.Xor a b)

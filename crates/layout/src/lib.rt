@@ -1,2 +1,11 @@
-// The layout of a book: the bytes of a key, a wire and a whole book, as definitions.
+// The bytes of books and keys: how they are laid out, and what follows the front of a list.
 #![tactic(auto)]
+
+ghost use Rattle.std.specs.Prelude.{◌≡◌, drop};
+
+// What follows the first n elements; nothing where they are not all there.
+pub fn after<T>(items: &[T], n: usize) -> &[T]
+    ensures { result.now ≡ drop n items.now }
+{
+    items.get(n..).unwrap_or(&[])
+}

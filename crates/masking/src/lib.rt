@@ -17,7 +17,7 @@ impl Width {
     pub fn new(bits: u8) -> Result<Width, Refusal>
         ensures { width_answer result ≡ allowed bits }
     {
-        if bits >= 1 && bits <= 32 {
+        if (1..=32).contains(&bits) {
             Ok(Width { bits })
         } else {
             Err(Refusal::KeyWidth)
@@ -34,7 +34,7 @@ impl Width {
     pub fn size(self) -> u64
         ensures { result ≡ size self }
     {
-        1u64 << self.bits
+        1 << self.bits
     }
 
     // A number modulo N.
@@ -48,7 +48,35 @@ impl Width {
     pub fn has(self, number: u32) -> bool
         ensures { result ≡ nat_lt number (size self) }
     {
-        (number as u64) < self.size()
+        u64::from(number) < self.size()
+    }
+
+    // A sum modulo N, of held values or of masks.
+    pub fn sum(self, a: u32, b: u32) -> u32
+        ensures { result ≡ sum_of (size self) a b }
+    {
+        self.reduce(u64::from(a) + u64::from(b))
+    }
+
+    // A difference modulo N.
+    pub fn difference(self, a: u32, b: u32) -> u32
+        ensures { result ≡ plain (size self) (b % size self) a }
+    {
+        self.reduce(u64::from(a) + (self.size() - u64::from(self.reduce(u64::from(b)))))
+    }
+
+    // c times a held value, and d on top.
+    pub fn scale(self, c: u32, d: u32, a: u32) -> u32
+        ensures { result ≡ scale_of (size self) c d a }
+    {
+        self.reduce(u64::from(c) * u64::from(a) + u64::from(d))
+    }
+
+    // The mask of c times a wire and d on top: d is in the held value only.
+    pub fn scale_mask(self, c: u32, mask: u32) -> u32
+        ensures { result ≡ scale_mask (size self) c mask }
+    {
+        self.reduce(u64::from(c) * u64::from(mask))
     }
 }
 
@@ -68,7 +96,7 @@ impl Reading {
     pub fn mask(self, width: Width, mask: u32) -> Masked
         ensures { result.0 ≡ masked (size width) mask self.0 }
     {
-        Masked(width.reduce(self.0 as u64 + mask as u64))
+        Masked(width.sum(self.0, mask))
     }
 }
 
@@ -76,29 +104,8 @@ impl Masked {
     pub fn unmask(self, width: Width, mask: u32) -> Reading
         ensures { result.0 ≡ plain (size width) (mask % size width) self.0 }
     {
-        Reading(difference(width, self.0, mask))
+        Reading(width.difference(self.0, mask))
     }
-}
-
-// A sum modulo N, of held values or of masks.
-pub fn sum(width: Width, a: u32, b: u32) -> u32
-    ensures { result ≡ sum_of (size width) a b }
-{
-    width.reduce(a as u64 + b as u64)
-}
-
-// A difference modulo N.
-pub fn difference(width: Width, a: u32, b: u32) -> u32
-    ensures { result ≡ plain (size width) (b % size width) a }
-{
-    width.reduce(a as u64 + (width.size() - width.reduce(b as u64) as u64))
-}
-
-// c times a held value, and d on top.
-pub fn scale(width: Width, c: u32, d: u32, a: u32) -> u32
-    ensures { result ≡ scale_of (size width) c d a }
-{
-    width.reduce(width.reduce(c as u64 * a as u64) as u64 + d as u64)
 }
 
 // The XOR of flags, of held values or of masks.
@@ -106,11 +113,4 @@ pub fn xor(a: u32, b: u32) -> u32
     ensures { result ≡ xor_of a b }
 {
     a ^ b
-}
-
-// The mask of c times a wire and d on top: d is in the held value only.
-pub fn scale_mask(width: Width, c: u32, mask: u32) -> u32
-    ensures { result ≡ scale_mask (size width) c mask }
-{
-    width.reduce(c as u64 * mask as u64)
 }

@@ -9,32 +9,32 @@ ghost use Rattle.shares.specs.Plain.{plain_sum, plain_scale, plain_product, plai
 ghost use Rattle.shares.specs.Plain.{signed, remainder, plain_signed_shift};
 
 use gatekeys::{Interval, Shift};
-use masking::{Reading, Width, scale, sum, xor};
+use masking::{Reading, Width, xor};
 
 pub fn plain_sum(width: Width, v: Reading, w: Reading) -> Reading
     ensures { result.0 ≡ plain_sum (size width) v.0 w.0 }
 {
-    Reading(sum(width, v.0, w.0))
+    Reading(width.sum(v.0, w.0))
 }
 
 // c times the value, and d on top.
 pub fn plain_scale(width: Width, c: u32, d: u32, v: Reading) -> Reading
     ensures { result.0 ≡ plain_scale (size width) c d v.0 }
 {
-    Reading(scale(width, c, d, v.0))
+    Reading(width.scale(c, d, v.0))
 }
 
 pub fn plain_product(width: Width, v: Reading, w: Reading) -> Reading
     ensures { result.0 ≡ plain_product (size width) v.0 w.0 }
 {
-    Reading(width.reduce(v.0 as u64 * w.0 as u64))
+    Reading(width.scale_mask(v.0, w.0))
 }
 
 // Whether a number is in the interval, both ends within.
 fn holds(interval: Interval, v: u32) -> bool
     ensures { result ≡ inside interval.low interval.high v }
 {
-    interval.low() <= v && v <= interval.high()
+    (interval.low()..=interval.high()).contains(&v)
 }
 
 // The cubic at v, exactly: it fits 128 bits.
@@ -42,8 +42,10 @@ fn curve(coefficients: [u32; 4], v: u32) -> u128
     ensures { result ≡ curve (get_or coefficients 0 0) (get_or coefficients 1 0) (get_or coefficients 2 0) (get_or coefficients 3 0) v }
 {
     let [c0, c1, c2, c3] = coefficients;
-    let v = v as u128;
-    c0 as u128 + c1 as u128 * v + c2 as u128 * v * v + c3 as u128 * v * v * v
+    let v = u128::from(v);
+    let square = u128::from(c2) * v * v;
+    let cube = u128::from(c3) * v * v * v;
+    u128::from(c0) + u128::from(c1) * v + square + cube
 }
 
 // The cubic with these coefficients, lowest first, where the value is in the interval; else 0.
@@ -52,7 +54,7 @@ pub fn plain_piece(interval: Interval, coefficients: [u32; 4], v: Reading) -> Re
         (get_or coefficients 0 0) (get_or coefficients 1 0) (get_or coefficients 2 0) (get_or coefficients 3 0) v.0 }
 {
     if holds(interval, v.0) {
-        Reading((curve(coefficients, v.0) % interval.width().size() as u128) as u32)
+        Reading((curve(coefficients, v.0) % u128::from(interval.width().size())) as u32)
     } else {
         Reading(0)
     }
@@ -85,10 +87,10 @@ pub fn plain_shift(shift: Shift, v: Reading) -> Reading
 fn signed(width: Width, v: u32) -> i64
     ensures { result ≡ signed (size width) v }
 {
-    if (v as u64) < width.size() / 2 {
-        v as i64
+    if u64::from(v) < width.size() / 2 {
+        i64::from(v)
     } else {
-        v as i64 - width.size() as i64
+        i64::from(v) - width.size() as i64
     }
 }
 

@@ -56,9 +56,6 @@ impl<'a> CheckedPlan<'a> {
         requires { k < wires (stated self.plan) }
         ensures { result ≡ wire_at (stated self.entry.plan) k }
     {
-        match self.plan.wire(k) {
-            Some(wire) => wire,
-            None => unreachable(),
-        }
+        self.plan.wire(k)
     }
 }

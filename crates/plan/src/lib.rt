@@ -1,7 +1,7 @@
 // Plans: a width, inputs with an owner, and gates; and the questions that are asked about one.
 #![tactic(auto)]
 
-ghost use Rattle.std.specs.Prelude.{◌≡◌, ◌≤◌, cond, nat_lt};
+ghost use Rattle.std.specs.Prelude.{◌≡◌, ◌<◌, ◌≤◌, cond, nat_lt};
 ghost use Rattle.plan.specs.Plans.{stated, wires, wire_at, is_flag, wire_words};
 ghost use Rattle.plan.specs.Order.{SmallerIsTold};
 
@@ -48,7 +48,7 @@ impl<'a> Plan<'a> {
     }
 
     // Wire k, where the plan has one.
-    pub fn wire(self, k: usize) -> Option<PlanWire>
+    pub fn get(self, k: usize) -> Option<PlanWire>
         ensures { result ≡ cond (nat_lt k (wires (stated self.entry))) (Some (wire_at (stated self.entry) k)) None }
     {
         let inputs = self.owners.len();
@@ -60,13 +60,21 @@ impl<'a> Plan<'a> {
             self.rows.get(k - inputs).map(|row| PlanWire::Gate(*row))
         }
     }
+
+    // Wire k, which the plan has.
+    pub fn wire(self, k: usize) -> PlanWire
+        requires { k < wires (stated self) }
+        ensures { result ≡ wire_at (stated self.entry) k }
+    {
+        self.get(k).unwrap()
+    }
 }
 
 impl<'a> Wires for Plan<'a> {
     ghost flags = { λ plan k. is_flag (stated plan) k };
 
     fn is_flag(&self, wire: usize) -> bool {
-        match self.wire(wire) {
+        match self.get(wire) {
             Some(PlanWire::Gate(row)) => row.body.gives_flag(),
             _ => false,
         }

@@ -1,3 +1,4 @@
+mod Entries
 pub mod Yes
 pub mod Laid
 pub mod Taken

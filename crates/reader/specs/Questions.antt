@@ -1,5 +1,6 @@
 -- The questions about a book, for a box whose expander has one kind.
-use Rattle.std.specs.Prelude.{ℕ, zero, suc, ◌+◌, ◌*◌, Bool, true, false, cond, ◌&&◌, List, [], ◌∷◌, length, Some, None, Option, Result, ◌==◌, nat_le, nat_lt, slice_index}
+use Rattle.std.specs.Prelude.{ℕ, zero, suc, ◌+◌, ◌*◌, Bool, false, cond, ◌&&◌, List, [], ◌∷◌, length, Some, None, Option, Result, ◌==◌, nat_le, nat_lt, slice_index}
+use Rattle.std.specs.List.{list_all, range_with_len}
 use Rattle.refusal.specs.declared.Refusal.{Refusal}
 use Rattle.refusal.specs.declared.Refusal.TheVariants.{BookLength, BookHeader, BookKind, BookCounts, BookContents, BookBodies}
 use Rattle.refusal.specs.Questions.{answered}
@@ -52,8 +53,7 @@ wire_fits book k =
 
 -- the n wires from wire k on
 abbrev pub wires_fit : List ℕ → ℕ → ℕ → Bool
-wires_fit book zero k = true
-wires_fit book (suc n) k = wire_fits book k && wires_fit book n (k + 1)
+wires_fit book n k = list_all (wire_fits book) (range_with_len k n)
 
 -- the questions 11 to 16
 abbrev pub book_asks : ℕ → List ℕ → List (Bool × Refusal)

@@ -1,77 +1,42 @@
 // The questions about a book.
-ghost use Rattle.std.specs.Prelude.{◌≡◌, ◌+◌, ◌*◌, ◌<◌, ◌≤◌, length, Ok, slice_index};
+ghost use Rattle.std.specs.Prelude.{◌≡◌, ◌+◌, ◌*◌, ◌<◌, ◌≤◌, length, Ok};
 ghost use Rattle.refusal.specs.Questions.{answered};
-ghost use Rattle.bodies.specs.Heads.{lower_number, lower_flag, reads_fit};
-ghost use Rattle.reader.specs.Reading.{flag_in};
 ghost use Rattle.reader.specs.Law.{Tells};
 ghost use Rattle.reader.specs.Questions.{entry_fits, gapless, reads_in, wire_fits, wires_fit, book_asks};
 
-use crate::reading::{body_in, is_flag};
+use crate::reading::{Book, body_in};
 use bodies::{GateHead, byte_in, gate_fits, head_in, input_fits};
 use buffers::number_at;
 use refusal::Refusal;
 
-fn lower_number(book: &[u8], k: usize, wire: u8) -> bool
-    ensures { result ≡ lower_number (flag_in book.now) k wire }
-{
-    (wire as usize) < k && !is_flag(book, wire as usize)
-}
-
-fn lower_flag(book: &[u8], k: usize, wire: u8) -> bool
-    ensures { result ≡ lower_flag (flag_in book.now) k wire }
-{
-    (wire as usize) < k && is_flag(book, wire as usize)
-}
-
-// Does the gate of wire k read lower wires of the right kind?
-fn reads_fit(book: &[u8], k: usize, gate: GateHead) -> bool
-    ensures { result ≡ reads_fit (flag_in book.now) k gate }
-{
-    match gate {
-        GateHead::Sum { a, b } | GateHead::Product { a, b } => {
-            lower_number(book, k, a) && lower_number(book, k, b)
-        }
-        GateHead::Scale { a, .. } | GateHead::Piece { a, .. } | GateHead::Flag { a, .. } => {
-            lower_number(book, k, a)
-        }
-        GateHead::Shift { a, .. } | GateHead::SignedShift { a, .. } => lower_number(book, k, a),
-        GateHead::Xor { a, b } => lower_flag(book, k, a) && lower_flag(book, k, b),
+impl<'a> Book<'a> {
+    // Is the kind of wire k's gate known, and does it read lower wires of the right kind?
+    fn head_reads_fit(self, k: usize, head: Option<GateHead>) -> bool
+        ensures { result ≡ reads_in self.entry.bytes.now k head }
+    {
+        let book = self.bytes;
+        head.is_some_and(|gate| gate.reads_fit(&Book { bytes: book }, k))
     }
-}
 
-fn head_reads_fit(book: &[u8], k: usize, head: Option<GateHead>) -> bool
-    ensures { result ≡ reads_in book.now k head }
-{
-    match head {
-        Some(gate) => reads_fit(book, k, gate),
-        None => false,
-    }
-}
-
-// Is the body of wire k of its layout, and are its fields allowed?
-fn wire_fits(book: &[u8], k: usize) -> bool
-    requires { slice_index book.now 3 ≤ 32 }
-    ensures { result ≡ wire_fits book.now k }
-{
-    let body = body_in(book, k);
-    let width = byte_in(book, 3);
-    if k < byte_in(book, 8) as usize {
-        input_fits(byte_in(book, 1), width, body)
-    } else {
-        gate_fits(width, body) && head_reads_fit(book, k, head_in(body))
-    }
-}
-
-fn wires_fit(book: &[u8], wires: usize) -> bool
-    requires { slice_index book.now 3 ≤ 32 }
-    ensures { result ≡ wires_fit book.now wires 0 }
-{
-    for k in 0..wires {
-        if !wire_fits(book, k) {
-            return false;
+    // Is the body of wire k of its layout, and are its fields allowed?
+    fn wire_fits(self, k: usize) -> bool
+        ensures { result ≡ wire_fits self.entry.bytes.now k }
+    {
+        let book = self.bytes;
+        let body = body_in(book, k);
+        let width = byte_in(book, 3);
+        if k < byte_in(book, 8) as usize {
+            input_fits(byte_in(book, 1), width, body)
+        } else {
+            gate_fits(width, body) && self.head_reads_fit(k, head_in(body))
         }
     }
-    true
+
+    fn wires_fit(self, wires: usize) -> bool
+        ensures { result ≡ wires_fit self.entry.bytes.now wires 0 }
+    {
+        (0..wires).all(|k| self.wire_fits(k))
+    }
 }
 
 // Does the body of wire k begin at a place, and end within the book?
@@ -122,7 +87,7 @@ fn asked_book(kind: u8, book: &[u8]) -> Result<(), Refusal>
         16 + 8 * wires <= book.len() && is_gapless(book, wires),
         Refusal::BookContents,
     )?;
-    Refusal::ask(wires_fit(book, wires), Refusal::BookBodies)
+    Refusal::ask(Book { bytes: book }.wires_fit(wires), Refusal::BookBodies)
 }
 
 // The questions 11 to 16 about a book that a box with this kind of expander is given. They pass exactly what the layout

@@ -1,10 +1,10 @@
 // What a reader finds in a book: its header, the body of each wire, and what that says.
-ghost use Rattle.std.specs.Prelude.{◌≡◌, ◌^◌, ◌<◌};
+ghost use Rattle.std.specs.Prelude.{◌≡◌, ℕ, ◌+◌, ◌*◌, ◌<◌, ◌≤◌, Bool, length, MatchOption, slice_range};
 ghost use Rattle.reader.specs.Reading.{header_in, headed, body_in, flag_kind, flag_in, wire_in};
 
 use crate::BookHeader;
-use bodies::{WireBody, byte_in, gate_in, input_in, number_in, part_of};
-use buffers::number_at;
+use bodies::{WireBody, after, byte_in, gate_in, input_in, number_in, part_of};
+use plan::{GateKind, Wires};
 
 pub fn header_in(book: &[u8]) -> BookHeader
     ensures { headed result ≡ header_in book.now }
@@ -19,30 +19,33 @@ pub fn header_in(book: &[u8]) -> BookHeader
     }
 }
 
+// The eight bytes of wire k in the contents, where they are all there.
+fn entry_in(book: &[u8], k: usize) -> Option<&[u8]>
+    ensures { MatchOption result (length book.now < 24 + 8 * k)
+        (λ entry. (24 + 8 * k ≤ length book.now) × (entry.now ≡ slice_range book.now (16 + 8 * k) (24 + 8 * k))) }
+{
+    after(book, 16).chunks_exact(8).nth(k)
+}
+
 // The body of wire k; nothing where its entry in the contents or the body is not whole.
 pub fn body_in(book: &[u8], k: usize) -> &[u8]
     ensures { result.now ≡ body_in book.now k }
 {
-    if book.len() < 24 || k > (book.len() - 24) / 8 {
-        return &[];
+    match entry_in(book, k) {
+        Some(entry) => part_of(
+            book,
+            number_in(entry, 0) as usize,
+            number_in(entry, 4) as usize,
+        ),
+        None => &[],
     }
-    let offset = number_at(book, 16 + 8 * k) as usize;
-    let long = number_at(book, 20 + 8 * k) as usize;
-    part_of(book, offset, long)
 }
 
 // Does a gate of this kind byte give flags?
-fn flag_kind(kind: u8) -> bool
-    ensures { result ≡ flag_kind kind }
+fn flag_kind(number: u8) -> bool
+    ensures { result ≡ flag_kind number }
 {
-    kind == 5 || kind == 8
-}
-
-// Does wire k carry flags?
-pub(crate) fn is_flag(book: &[u8], k: usize) -> bool
-    ensures { result ≡ flag_in book.now k }
-{
-    !(k < byte_in(book, 8) as usize) && flag_kind(byte_in(body_in(book, k), 0))
+    GateKind::try_from(number).is_ok_and(|kind| kind.gives_flag())
 }
 
 // What the body of wire k says; nothing where a gate's kind is not known.
@@ -54,5 +57,19 @@ pub fn read_wire(book: &[u8], k: usize) -> Option<WireBody>
         Some(input_in(byte_in(book, 1), body))
     } else {
         gate_in(body)
+    }
+}
+
+// A book whose wires are asked about.
+#[derive(Clone, Copy)]
+pub(crate) struct Book<'a> {
+    pub(crate) bytes: &'a [u8],
+}
+
+impl<'a> Wires for Book<'a> {
+    ghost flags = { λ book. flag_in book.bytes.now };
+
+    fn is_flag(&self, wire: usize) -> bool {
+        wire >= byte_in(self.bytes, 8) as usize && flag_kind(byte_in(body_in(self.bytes, wire), 0))
     }
 }

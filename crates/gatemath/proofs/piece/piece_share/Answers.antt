@@ -1,6 +1,4 @@
-use mathlib.Core.Path.{◌≡◌, sym, ap, ◌∙◌}
-use Prim.Native.Nat.{ℕ, ◌+◌, ◌%◌, ◌^◌, ◌≤◌}
-use native.Mathlib.Omega.{arith}
+use Rattle.std.proofs.Common.{◌≡◌, ℕ, ◌+◌, ◌%◌, ◌^◌, ◌≤◌, sym, ap, ◌∙◌, arith}
 use Rattle.masking.specs.Masking.{size}
 use Rattle.shares.proofs.Words.{power_divides}
 use Rattle.shares.proofs.Piece.{share_by_horner, share_of_quad}
@@ -13,7 +11,7 @@ returns c =
     let q = c.args.answer in
     let few : w.bits ≤ 64 = omega (arith, w.most) in
     let d : 2 ^ 64 % N ≡ 0 = power_divides w.bits few in
-    c.reduce-2.ensures
+    c.sum.ensures
     ∙ ap (λ n. (n + c.args.out) % N) (c.reduce.ensures ∙ ap (λ t. t % N) c.horner.ensures)
     ∙ share_by_horner N c.args.m q.left.left.0 q.left.right.0 q.right.left.0 q.right.right.0 c.args.out d
     ∙ sym (share_of_quad N c.args.m q.left.left.0 q.left.right.0 q.right.left.0 q.right.right.0 c.args.out d)
