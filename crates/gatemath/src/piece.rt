@@ -3,14 +3,15 @@ ghost use Rattle.std.specs.Prelude.{◌≡◌, get_or};
 ghost use Rattle.masking.specs.Masking.{size};
 ghost use Rattle.shares.specs.Piece.{piece_payload, piece_share_of};
 ghost use Rattle.gatemath.specs.Elements.{quad_mean};
-ghost use Rattle.gatemath.specs.Piece.{by_horner};
+ghost use Rattle.gatemath.specs.Piece.{moved_quad, by_horner};
 
 use group::{Pair, Quad, Word};
 use masking::Width;
 
 // The coefficients of f(m − r), lowest first.
 pub fn payload_for(mask: u32, coefficients: &[u32; 4]) -> Quad
-    ensures { quad_mean result
+    ensures is { result ≡ moved_quad mask coefficients.now }
+    ensures mean { quad_mean result
         ≡ piece_payload mask (get_or coefficients.now 0 0) (get_or coefficients.now 1 0)
         (get_or coefficients.now 2 0) (get_or coefficients.now 3 0) }
 {
@@ -33,7 +34,10 @@ pub fn payload_for(mask: u32, coefficients: &[u32; 4]) -> Quad
 fn horner(answer: Quad, m: u32) -> u64
     ensures { result ≡ by_horner answer.left.left.0 answer.left.right.0 answer.right.left.0 answer.right.right.0 m }
 {
-    let Pair { left: one, right: two } = answer;
+    let Pair {
+        left: one,
+        right: two,
+    } = answer;
     let x = u64::from(m);
     let high = two.right.0.wrapping_mul(x).wrapping_add(two.left.0);
     let low = high.wrapping_mul(x).wrapping_add(one.right.0);

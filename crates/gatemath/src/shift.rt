@@ -84,7 +84,10 @@ fn more_for(sign: Sign, number: BoxNumber, shift: Shift, m: u32) -> u64
     ensures small { result < 2 ^ 34 }
 {
     let at = point_at(sign, shift.width(), m);
-    number_if(number.is_one(), steps_in(shift, at) + half_back(sign, shift))
+    number_if(
+        number.is_one(),
+        steps_in(shift, at) + half_back(sign, shift),
+    )
 }
 
 // A box's share of a shift, from its keys' answers, where they are asked about the held value m, and its part of the rest.

@@ -9,6 +9,8 @@ use group::{Flags, low_half};
 use key::BoxNumber;
 use masking::Width;
 
+// Stays: no trait for parts of numbers and of elements, since a number's part needs N beside: no plainer.
+
 // A box's part of a number: box 1 has the random word modulo N, box 0 the difference.
 pub fn number_part(width: Width, number: BoxNumber, all: u64, random: u64) -> u32
     ensures { result ≡ part_of_number (is_one number) (size width) all random }

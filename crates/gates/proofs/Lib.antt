@@ -1,9 +1,5 @@
 pub mod Asked
-pub mod Draws
-pub mod FlagShares
+pub mod Ends
 pub mod Meeting
-pub mod Pieces
-pub mod ShiftAsked
-pub mod ShiftDealt
-pub mod ShiftKeys
+pub mod Shares
 pub mod ShiftShares

@@ -36,7 +36,7 @@ module _ {G M : Type 0} (g : OutputGroup M) (mean : G → M) (d : Expansion) (i 
 
   -- the box's own root
   abbrev own : Bool → Seed
-  own one = cond one dr.root1 dr.root0
+  own one = cond one dr.roots.one dr.roots.zero
 
   -- a box's answer from its dealt key is the defined one
   pub answer_dealt : (x : Expansion) (b : BoxNumber) (k : IntervalKey G) (rows : List (Row G)) (out m : ℕ)
@@ -44,11 +44,11 @@ module _ {G M : Type 0} (g : OutputGroup M) (mean : G → M) (d : Expansion) (i 
       → map (row_mean mean) rows ≡ interval_rows d g i r β dr n
       → interval_answer x g mean k rows m
       ≡ keyed.interval_answer g (is_one b) N m r i.low i.high β dr.payload1 dr.extra1
-      (dealt_answer g d x n (threshold N r) β dr.root0 dr.root1 (is_one b) (own (is_one b)))
+      (dealt_answer g d x n (threshold N r) β dr.roots.zero dr.roots.one (is_one b) (own (is_one b)))
   answer_dealt x b k rows out m hk hr =
       let at : IntervalKey M → (ℕ → M) → M = λ j f.
-      answer g (size j.interval.width) m j.interval.low j.interval.high j.payload j.extra f in
-      let walk : IntervalKey M → List (Row M) → ℕ → M = λ j rs p. evaluated x g (λ (v : M). v) (is_one j.number) j.root rs j.last p in
-      ap (at (interval_key_mean mean k)) (λ t p. same_evaluated x g mean (is_one k.number) k.root rows k.last p t)
+      answer g (size j.interval.width) m j.interval.low j.interval.high j.parts.payload j.parts.extra f in
+      let walk : IntervalKey M → List (Row M) → ℕ → M = λ j rs p. evaluated x g (λ (v : M). v) (is_one j.number) j.parts.ends.root rs j.parts.ends.last p in
+      ap (at (interval_key_mean mean k)) (λ t p. same_evaluated x g mean (is_one k.number) k.parts.ends.root rows k.parts.ends.last p t)
       ∙ ap (λ rs. at (interval_key_mean mean k) (walk (interval_key_mean mean k) rs)) hr
       ∙ ap (λ j. at j (walk j (interval_rows d g i r β dr n))) hk

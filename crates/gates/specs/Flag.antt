@@ -3,6 +3,7 @@ use Rattle.std.specs.Prelude.{ℕ, ◌%◌, ◌^◌, Bool, true, false, cond, Li
 use Rattle.expander.specs.Meaning.{Expansion}
 use Rattle.group.specs.Residues.{Residue}
 use Rattle.group.specs.Flags.{flags}
+use Rattle.group.specs.declared.Flags.{Flags}
 use Rattle.key.specs.declared.Row.{Row}
 use Rattle.key.specs.declared.BoxNumber.{BoxNumber}
 use Rattle.key.specs.Rows.{is_one}
@@ -17,18 +18,39 @@ use Rattle.shares.specs.Words.{flag_word}
 use Rattle.shares.specs.Plain.{plain_flag}
 use Rattle.gatekeys.specs.Random.{root_of}
 use Rattle.gatekeys.specs.declared.ranges.Interval.{Interval}
+use Rattle.gatekeys.specs.declared.keyed.FlagGate.{FlagGate}
 use Rattle.gates.specs.declared.interval_key.IntervalKey.{IntervalKey}
 use Rattle.gates.specs.declared.interval_key.IntervalDraws.{IntervalDraws}
+use Rattle.gates.specs.declared.interval_key.IntervalDeal.{IntervalDeal}
 use Rattle.gates.specs.Interval.{dealt_interval, interval_rows}
 
 -- words 1 to 4 are the roots, 5 box 1's part of the payload, 6 its part of E: low halves
 abbrev pub flag_draws : List ℕ → IntervalDraws (Residue (2 ^ 32))
 flag_draws w = record {
-  root0 = root_of (slice_index w 1) (slice_index w 2);
-  root1 = root_of (slice_index w 3) (slice_index w 4);
+  roots = record {
+    zero = root_of (slice_index w 1) (slice_index w 2);
+    one = root_of (slice_index w 3) (slice_index w 4);
+  };
   payload1 = flag_word (slice_index w 5 % 2 ^ 32);
   extra1 = flag_word (slice_index w 6 % 2 ^ 32);
 }
+
+-- what its keys are dealt from, in memory
+abbrev pub flag_deal : FlagGate → IntervalDeal Flags
+flag_deal t = record {
+  interval = t.interval;
+  mask = t.mask;
+  payload = record { 0 = t.pattern };
+  draws = record {
+    roots = (flag_draws t.words).roots;
+    payload1 = record { 0 = slice_index t.words 5 % 2 ^ 32 };
+    extra1 = record { 0 = slice_index t.words 6 % 2 ^ 32 };
+  };
+}
+
+-- a box's part of the output mask, which is word 0; word 7 is box 1's
+abbrev pub flag_out : FlagGate → Bool → ℕ
+flag_out t one = part_of_flags one (slice_index t.words 0 % 2 ^ 32) (slice_index t.words 7)
 
 -- a box's key; word 0 is the output mask, and word 7 box 1's part of it
 abbrev pub dealt_flag_key : Expansion → BoxNumber → Interval → ℕ → ℕ → List ℕ → ℕ → IntervalKey (Residue (2 ^ 32))
@@ -42,8 +64,8 @@ flag_rows x i r pattern w n = interval_rows x flags i r (flag_word pattern) (fla
 abbrev pub flag_share_dealt : Expansion → Expansion → Bool → Interval → ℕ → ℕ → List ℕ → ℕ → ℕ
 flag_share_dealt d x one i r pattern w m =
     let N : ℕ = size i.width in
-    let a : Seed = (flag_draws w).root0 in
-    let b : Seed = (flag_draws w).root1 in
+    let a : Seed = (flag_draws w).roots.zero in
+    let b : Seed = (flag_draws w).roots.one in
     dealt_flag one N m r i.low i.high pattern (slice_index w 0 % 2 ^ 32) (flag_draws w).payload1 (flag_draws w).extra1 (slice_index w 7)
     (dealt_answer flags d x i.width.bits (threshold N r) (flag_word pattern) a b one (cond one b a))
 

@@ -1,6 +1,10 @@
 -- A piece's key and share.
-use Rattle.std.specs.Prelude.{ℕ, ◌+◌, ◌%◌, Bool, true, false, cond, List, slice_index}
+use Rattle.std.specs.Prelude.{ℕ, ◌+◌, ◌%◌, Bool, true, false, cond, List, [], ◌∷◌, slice_index}
 use Rattle.expander.specs.Meaning.{Expansion}
+use Rattle.group.specs.declared.Word as code
+use Rattle.group.specs.declared.Pair.{Pair}
+use Rattle.group.specs.Quads.{quad_from}
+use Rattle.gatemath.specs.Piece.{moved_quad}
 use Rattle.key.specs.declared.Row.{Row}
 use Rattle.key.specs.declared.BoxNumber.{BoxNumber}
 use Rattle.key.specs.Rows.{is_one}
@@ -16,19 +20,19 @@ use Rattle.shares.specs.Piece.{piece_payload}
 use Rattle.shares.specs.Plain.{plain_piece}
 use Rattle.gatekeys.specs.Random.{root_of}
 use Rattle.gatekeys.specs.declared.ranges.Interval.{Interval}
-use Rattle.gates.specs.declared.states.Fresh.{Fresh}
+use Rattle.gatekeys.specs.declared.keyed.PieceGate.{PieceGate}
 use Rattle.gates.specs.declared.interval_key.IntervalKey.{IntervalKey}
 use Rattle.gates.specs.declared.interval_key.IntervalDraws.{IntervalDraws}
-use Rattle.gates.specs.Interval.{interval_key_mean, dealt_interval, interval_rows}
-
-abbrev pub fresh_mean : {G M : Type 0} → (G → M) → Fresh (IntervalKey G) → IntervalKey M
-fresh_mean mean f = interval_key_mean mean f.key
+use Rattle.gates.specs.declared.interval_key.IntervalDeal.{IntervalDeal}
+use Rattle.gates.specs.Interval.{dealt_interval, interval_rows}
 
 -- words 1 to 4 are the roots, 5 to 8 box 1's part of the payload, 9 to 12 its part of E
 abbrev pub piece_draws : List ℕ → IntervalDraws Quad
 piece_draws w = record {
-  root0 = root_of (slice_index w 1) (slice_index w 2);
-  root1 = root_of (slice_index w 3) (slice_index w 4);
+  roots = record {
+    zero = root_of (slice_index w 1) (slice_index w 2);
+    one = root_of (slice_index w 3) (slice_index w 4);
+  };
   payload1 = quad (slice_index w 5) (slice_index w 6) (slice_index w 7) (slice_index w 8);
   extra1 = quad (slice_index w 9) (slice_index w 10) (slice_index w 11) (slice_index w 12);
 }
@@ -36,6 +40,23 @@ piece_draws w = record {
 -- the payload for the coefficients c and the mask r
 abbrev pub payload_of : ℕ → List ℕ → Quad
 payload_of r c = piece_payload r (slice_index c 0) (slice_index c 1) (slice_index c 2) (slice_index c 3)
+
+-- what its keys are dealt from, in memory
+abbrev pub piece_deal : PieceGate → IntervalDeal (Pair (Pair code.Word code.Word) (Pair code.Word code.Word))
+piece_deal t = record {
+  interval = t.interval;
+  mask = t.mask;
+  payload = moved_quad t.mask t.coefficients;
+  draws = record {
+    roots = (piece_draws t.words).roots;
+    payload1 = quad_from (slice_index t.words 5 ∷ slice_index t.words 6 ∷ slice_index t.words 7 ∷ slice_index t.words 8 ∷ []);
+    extra1 = quad_from (slice_index t.words 9 ∷ slice_index t.words 10 ∷ slice_index t.words 11 ∷ slice_index t.words 12 ∷ []);
+  };
+}
+
+-- a box's part of the output mask, which is word 0; word 13 is box 1's
+abbrev pub piece_out : PieceGate → Bool → ℕ
+piece_out t one = let N : ℕ = size t.interval.width in part_of_number one N (slice_index t.words 0 % N) (slice_index t.words 13)
 
 -- a box's key; word 0 is the output mask, and word 13 box 1's part of it
 abbrev pub dealt_piece_key : Expansion → BoxNumber → Interval → ℕ → List ℕ → List ℕ → ℕ → IntervalKey Quad
@@ -50,8 +71,8 @@ piece_rows x i r c w n = interval_rows x quads i r (payload_of r c) (piece_draws
 abbrev pub piece_share_dealt : Expansion → Expansion → Bool → Interval → ℕ → List ℕ → List ℕ → ℕ → ℕ
 piece_share_dealt d x one i r c w m =
     let N : ℕ = size i.width in
-    let a : Seed = (piece_draws w).root0 in
-    let b : Seed = (piece_draws w).root1 in
+    let a : Seed = (piece_draws w).roots.zero in
+    let b : Seed = (piece_draws w).roots.one in
     dealt_piece one N m r i.low i.high (slice_index c 0) (slice_index c 1) (slice_index c 2) (slice_index c 3) (slice_index w 0 % N)
     (piece_draws w).payload1 (piece_draws w).extra1 (slice_index w 13)
     (dealt_answer quads d x i.width.bits (threshold N r) (payload_of r c) a b one (cond one b a))

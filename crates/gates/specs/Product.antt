@@ -18,16 +18,18 @@ dealt_product b w r s ws =
     record {
       number = b;
       width = w;
-      a = part_a (is_one b) N r (slice_index ws 1);
-      b = part_b (is_one b) N s (slice_index ws 2);
-      c = part_c (is_one b) N r s (slice_index ws 0 % N) (slice_index ws 3);
+      parts = record {
+        a = part_a (is_one b) N r (slice_index ws 1);
+        b = part_b (is_one b) N s (slice_index ws 2);
+        c = part_c (is_one b) N r s (slice_index ws 0 % N) (slice_index ws 3);
+      };
     }
 
 -- a box's share at the held values m and k
 abbrev pub product_share_dealt : BoxNumber → Width → ℕ → ℕ → List ℕ → ℕ → ℕ → ℕ
 product_share_dealt b w r s ws m k =
     let key : ProductKey = dealt_product b w r s ws in
-    product_share (is_one b) (size w) m k key.a key.b key.c
+    product_share (is_one b) (size w) m k key.parts.a key.parts.b key.parts.c
 
 -- both boxes' shares, and their sum
 abbrev pub product_numbers : Width → ℕ → ℕ → List ℕ → ℕ → ℕ → ℕ × ℕ × ℕ

@@ -9,8 +9,6 @@ use Rattle.masking.specs.declared.width.Width.{Width}
 use Rattle.gatekeys.specs.declared.ranges.Interval.{Interval}
 use Rattle.gatekeys.specs.declared.ranges.Shift.{Shift}
 use Rattle.keyform.specs.GateKeys.{IntervalIn, IntervalRead, ShiftIn, ShiftRead, ProductIn, three_numbers}
-use Rattle.keyform.specs.declared.gate_keys.IntervalParts.{IntervalParts}
-use Rattle.keyform.specs.declared.gate_keys.ShiftParts.{ShiftParts}
 use Rattle.gates.specs.declared.states.Fresh.{Fresh}
 use Rattle.gates.specs.declared.interval_key.IntervalKey.{IntervalKey}
 use Rattle.gates.specs.declared.product.ProductKey.{ProductKey}
@@ -23,23 +21,11 @@ abbrev pub ReadRefused : List (Bool × Refusal) → Type 0 → Refusal → Type 
 ReadRefused asks held e =
     (answered asks (tt {0}) ≡ Err e) ⊎ ((answered asks (tt {0}) ≡ Ok (tt {0})) × (held → ⊥) × (e ≡ BookBodies))
 
-abbrev pub interval_parts : {M : Type 0} → IntervalKey M → IntervalParts M
-interval_parts k = record { root = k.root; last = k.last; payload = k.payload; extra = k.extra; out = k.out }
-
-abbrev pub shift_parts : {M : Type 0} → ShiftKey M → ShiftParts M
-shift_parts k = record {
-  low_root = k.low_root;
-  low_last = k.low_last;
-  high_root = k.high_root;
-  high_last = k.high_last;
-  rest = k.rest;
-}
-
 -- a key of this box and interval, with these bytes; or a refusal, and the rows stay
 abbrev pub IntervalKeyRead : {M : Type 0} → (M → List ℕ) → BoxNumber → Interval → List ℕ → List (Row M) → List (Row M)
     → Result (Fresh (IntervalKey M)) Refusal → Type 0
 IntervalKeyRead form b i bytes old new (Ok f) =
-    (f.key.number ≡ b) × (f.key.interval ≡ i) × IntervalRead form i.width.bits bytes new (interval_parts f.key)
+    (f.key.number ≡ b) × (f.key.interval ≡ i) × IntervalRead form i.width.bits bytes new f.key.parts
 IntervalKeyRead form b i bytes old new (Err e) =
     ReadRefused (row_asks (length old) i.width.bits) (IntervalIn form i.width.bits bytes) e × (new ≡ old)
 
@@ -48,12 +34,12 @@ abbrev pub ShiftKeyRead : {M : Type 0} → (M → List ℕ) → BoxNumber → Sh
     → Result (Fresh (ShiftKey M)) Refusal → Type 0
 ShiftKeyRead form b s bytes low high low' high' (Ok f) =
     (f.key.number ≡ b) × (f.key.shift ≡ s)
-    × ShiftRead form s.by s.width.bits bytes low' high' (shift_parts f.key)
+    × ShiftRead form s.by s.width.bits bytes low' high' f.key.parts
 ShiftKeyRead form b s bytes low high low' high' (Err e) =
     ReadRefused (shift_row_asks s (length low) (length high)) (ShiftIn form s.by s.width.bits bytes) e
     × (low' ≡ low) × (high' ≡ high)
 
 abbrev pub ProductKeyRead : BoxNumber → Width → List ℕ → Result (Fresh ProductKey) Refusal → Type 0
 ProductKeyRead b w bytes (Ok f) =
-    (f.key.number ≡ b) × (f.key.width ≡ w) × (three_numbers f.key.a f.key.b f.key.c ≡ bytes)
+    (f.key.number ≡ b) × (f.key.width ≡ w) × (three_numbers f.key.parts.a f.key.parts.b f.key.parts.c ≡ bytes)
 ProductKeyRead b w bytes (Err e) = (ProductIn bytes → ⊥) × (e ≡ BookBodies)

@@ -1,28 +1,25 @@
 // The interval rule, once for every output group.
-ghost use Rattle.std.specs.Prelude.{◌≡◌, map, length, if◌then◌else◌};
-ghost use Rattle.key.specs.Rows.{row_mean, is_one};
-ghost use Rattle.evaluation.specs.Evaluation.{evaluated};
-ghost use Rattle.gates.specs.Interval.{interval_key_mean, draws_mean, key_at, interval_answer, dealt_interval, interval_rows};
+ghost use Rattle.std.specs.Prelude.{◌≡◌, map, length};
+ghost use Rattle.key.specs.Rows.{row_mean};
+ghost use Rattle.dealing.specs.Dealing.{dealt_rows, start};
+ghost use Rattle.gates.specs.Interval.{ends_mean, dealt_ends, interval_key_mean, key_at, interval_answer, key_of, rows_of};
 
 use crate::states::Fresh;
 use dealing::deal;
 use evaluation::answer;
-use expander::{Expander, Seed};
+use expander::Expander;
 use gatekeys::Interval;
 use gatemath::{after_end, extra_for, once_less, part_of, point_for, threshold_for};
 use group::{Group, difference};
-use key::{BoxNumber, Row, Rows};
+use key::{BoxNumber, KeyEnds, Roots, Row, Rows};
+use keyform::IntervalParts;
 
 // One box's key for an interval, but for the rows, which stand in the caller's table.
 #[derive(Drop)]
 pub struct IntervalKey<G> {
     pub(crate) number: BoxNumber,
     pub(crate) interval: Interval,
-    pub(crate) root: Seed,
-    pub(crate) last: G,
-    pub(crate) payload: G,
-    pub(crate) extra: G,
-    pub(crate) out: u32,
+    pub(crate) parts: IntervalParts<G>,
 }
 
 impl<G: Group> IntervalKey<G> {
@@ -31,7 +28,7 @@ impl<G: Group> IntervalKey<G> {
         ensures { G.Group.mean result
             ≡ key_at X.Expander.meaning G.Group.group G.Group.mean self.now rows.now point }
     {
-        answer(expander, self.number, self.root, rows, self.last, point)
+        answer(expander, self.number, self.parts.ends, rows, point)
     }
 
     // A box's answer at the held value m.
@@ -44,92 +41,94 @@ impl<G: Group> IntervalKey<G> {
         let next = after_end(width, self.interval.high());
         let at_low = self.at(expander, rows, point_for(width, m, low));
         let at_next = self.at(expander, rows, point_for(width, m, next));
-        difference(once_less(low < m, next < m, self.payload), at_low)
+        difference(once_less(low < m, next < m, self.parts.payload), at_low)
             .add(at_next)
-            .add(self.extra)
+            .add(self.parts.extra)
+    }
+}
+
+// Deals one box's comparison key from both roots: its rows into the table, and its ends.
+pub(crate) fn deal_ends<X: Expander, G: Group>(
+    expander: &X,
+    number: BoxNumber,
+    threshold: u32,
+    payload: G,
+    roots: Roots,
+    rows: &mut Rows<G>,
+) -> KeyEnds<G>
+    ensures ends { ends_mean G.Group.mean result
+        ≡ dealt_ends X.Expander.meaning G.Group.group number threshold (G.Group.mean payload) roots (length rows.old.rows.now) }
+    ensures rows { map (row_mean G.Group.mean) rows.new.rows.now
+        ≡ dealt_rows X.Expander.meaning G.Group.group (G.Group.mean payload) threshold (length rows.old.rows.now)
+        (start G.Group.group roots.zero roots.one) }
+    ensures same { rows.new.rows.ghost_name ≡ rows.old.rows.ghost_name }
+{
+    let last = deal(expander, threshold, payload, roots, rows);
+    KeyEnds {
+        root: roots.of(number),
+        last,
     }
 }
 
 // What the dealer draws for a key: both roots, and box 1's parts of the payload and of E.
 #[derive(Clone, Copy)]
 pub struct IntervalDraws<G> {
-    pub root0: Seed,
-    pub root1: Seed,
+    pub roots: Roots,
     pub payload1: G,
     pub extra1: G,
 }
 
-// Deals one box's key: its rows into the table, the rest as the fresh key. `out` is the box's part of the output mask.
-pub(crate) fn deal_interval<X: Expander, G: Group>(
-    expander: &X,
-    number: BoxNumber,
-    interval: Interval,
-    mask: u32,
-    payload: G,
-    draws: IntervalDraws<G>,
-    out: u32,
-    rows: &mut Rows<G>,
-) -> Fresh<IntervalKey<G>>
-    ensures key { interval_key_mean G.Group.mean result.key
-        ≡ dealt_interval X.Expander.meaning G.Group.group number interval mask (G.Group.mean payload) (draws_mean G.Group.mean draws) out
-        (length rows.old.rows.now) }
-    ensures rows { map (row_mean G.Group.mean) rows.new.rows.now
-        ≡ interval_rows X.Expander.meaning G.Group.group interval mask (G.Group.mean payload) (draws_mean G.Group.mean draws)
-        (length rows.old.rows.now) }
-    ensures same { rows.new.rows.ghost_name ≡ rows.old.rows.ghost_name }
-{
-    let threshold = threshold_for(interval.width(), mask);
-    let last = deal(expander, threshold, payload, draws.root0, draws.root1, rows);
-    let extra = extra_for(interval, mask, payload);
-    let key = IntervalKey {
-        number,
-        interval,
-        root: own_root(number, draws.root0, draws.root1),
-        last,
-        payload: part_of(number, payload, draws.payload1),
-        extra: part_of(number, extra, draws.extra1),
-        out,
-    };
-    Fresh { key }
+// What both boxes' keys of a gate on an interval are dealt from.
+#[derive(Clone, Copy)]
+pub struct IntervalDeal<G> {
+    pub interval: Interval,
+    pub mask: u32,
+    pub payload: G,
+    pub draws: IntervalDraws<G>,
 }
 
-// The box's own root.
-pub(crate) fn own_root(number: BoxNumber, root0: Seed, root1: Seed) -> Seed
-    ensures { result ≡ (if is_one number then root1 else root0) }
-{
-    if number.is_one() { root1 } else { root0 }
+impl<G: Group> IntervalDeal<G> {
+    // Deals one box's key: its rows into the table, the rest as the fresh key. `out` is the box's part of the output mask.
+    pub(crate) fn key<X: Expander>(
+        self,
+        expander: &X,
+        number: BoxNumber,
+        out: u32,
+        rows: &mut Rows<G>,
+    ) -> Fresh<IntervalKey<G>>
+        ensures key { interval_key_mean G.Group.mean result.key
+            ≡ key_of X.Expander.meaning G.Group.group G.Group.mean self number out (length rows.old.rows.now) }
+        ensures rows { map (row_mean G.Group.mean) rows.new.rows.now
+            ≡ rows_of X.Expander.meaning G.Group.group G.Group.mean self (length rows.old.rows.now) }
+        ensures same { rows.new.rows.ghost_name ≡ rows.old.rows.ghost_name }
+    {
+        let IntervalDeal {
+            interval,
+            mask,
+            payload,
+            draws,
+        } = self;
+        let threshold = threshold_for(interval.width(), mask);
+        let ends = deal_ends(expander, number, threshold, payload, draws.roots, rows);
+        let extra = extra_for(interval, mask, payload);
+        Fresh::new(IntervalKey {
+            number,
+            interval,
+            parts: IntervalParts {
+                ends,
+                payload: part_of(number, payload, draws.payload1),
+                extra: part_of(number, extra, draws.extra1),
+                out,
+            },
+        })
+    }
 }
 
-// What a box is given, for a book or a reader.
 impl<G: Group> Fresh<IntervalKey<G>> {
-    pub fn root(&self) -> Seed
-        ensures { result ≡ self.now.key.root }
+    // What a box is given, for a book or a reader.
+    pub fn parts(&self) -> IntervalParts<G>
+        ensures { result ≡ self.now.key.parts }
     {
-        self.key.root
-    }
-
-    pub fn last(&self) -> G
-        ensures { result ≡ self.now.key.last }
-    {
-        self.key.last
-    }
-
-    pub fn payload(&self) -> G
-        ensures { result ≡ self.now.key.payload }
-    {
-        self.key.payload
-    }
-
-    pub fn extra(&self) -> G
-        ensures { result ≡ self.now.key.extra }
-    {
-        self.key.extra
-    }
-
-    // The box's part of the output mask.
-    pub fn out(&self) -> u32
-        ensures { result ≡ self.now.key.out }
-    {
-        self.key.out
+        self.key.parts
     }
 }

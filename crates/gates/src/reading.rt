@@ -7,10 +7,10 @@ ghost use Rattle.gates.specs.Reads.{IntervalKeyRead, ShiftKeyRead, ProductKeyRea
 use crate::interval_key::IntervalKey;
 use crate::product::ProductKey;
 use crate::questions::{ask_rows, ask_shift_rows};
-use crate::shift::ShiftKey;
+use crate::shift::{ShiftKey, ShiftRows};
 use crate::states::Fresh;
 use gatekeys::{Interval, Shift};
-use group::{Group, Word};
+use group::Word;
 use key::{BoxNumber, Rows};
 use keyform::{read_interval, read_product, read_shift};
 use masking::Width;
@@ -30,20 +30,12 @@ pub fn read_interval_key<G: StoredGroup>(
     ensures same { rows.new.rows.ghost_name ≡ rows.old.rows.ghost_name }
 {
     ask_rows(interval.width(), rows.count())?;
-    match read_interval(bytes, rows) {
-        Some(parts) => Ok(Fresh {
-            key: IntervalKey {
-                number,
-                interval,
-                root: parts.root,
-                last: parts.last,
-                payload: parts.payload,
-                extra: parts.extra,
-                out: parts.out,
-            },
-        }),
-        None => Err(Refusal::BookBodies),
-    }
+    let parts = read_interval(bytes, rows).ok_or(Refusal::BookBodies)?;
+    Ok(Fresh::new(IntervalKey {
+        number,
+        interval,
+        parts,
+    }))
 }
 
 // The key of a shift: the low table has as many rows as the shift, the high one as the width.
@@ -51,29 +43,20 @@ pub fn read_shift_key(
     number: BoxNumber,
     shift: Shift,
     bytes: &[u8],
-    low: &mut Rows<Word>,
-    high: &mut Rows<Word>,
+    rows: &mut ShiftRows,
 ) -> Result<Fresh<ShiftKey<Word>>, Refusal>
-    ensures key { ShiftKeyRead word_form number shift bytes.now
-        low.old.rows.now high.old.rows.now low.new.rows.now high.new.rows.now result }
-    ensures same_low { low.new.rows.ghost_name ≡ low.old.rows.ghost_name }
-    ensures same_high { high.new.rows.ghost_name ≡ high.old.rows.ghost_name }
+    ensures key { ShiftKeyRead word_form number shift bytes.now rows.old.low.rows.now rows.old.high.rows.now
+        rows.new.low.rows.now rows.new.high.rows.now result }
+    ensures same_low { rows.new.low.rows.ghost_name ≡ rows.old.low.rows.ghost_name }
+    ensures same_high { rows.new.high.rows.ghost_name ≡ rows.old.high.rows.ghost_name }
 {
-    ask_shift_rows(shift, low.count(), high.count())?;
-    match read_shift(bytes, low, high) {
-        Some(parts) => Ok(Fresh {
-            key: ShiftKey {
-                number,
-                shift,
-                low_root: parts.low_root,
-                low_last: parts.low_last,
-                high_root: parts.high_root,
-                high_last: parts.high_last,
-                rest: parts.rest,
-            },
-        }),
-        None => Err(Refusal::BookBodies),
-    }
+    ask_shift_rows(shift, rows)?;
+    let parts = read_shift(bytes, &mut rows.low, &mut rows.high).ok_or(Refusal::BookBodies)?;
+    Ok(Fresh::new(ShiftKey {
+        number,
+        shift,
+        parts,
+    }))
 }
 
 // The key of a product.
@@ -84,16 +67,10 @@ pub fn read_product_key(
 ) -> Result<Fresh<ProductKey>, Refusal>
     ensures { ProductKeyRead number width bytes.now result }
 {
-    match read_product(bytes) {
-        Some(parts) => Ok(Fresh {
-            key: ProductKey {
-                number,
-                width,
-                a: parts.a,
-                b: parts.b,
-                c: parts.c,
-            },
-        }),
-        None => Err(Refusal::BookBodies),
-    }
+    let parts = read_product(bytes).ok_or(Refusal::BookBodies)?;
+    Ok(Fresh::new(ProductKey {
+        number,
+        width,
+        parts,
+    }))
 }

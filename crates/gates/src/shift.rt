@@ -1,97 +1,120 @@
 // The shifts: two comparison keys in words, a low one on the bits that go and a high one on all.
-ghost use Rattle.std.specs.Prelude.{◌≡◌, map, length};
+ghost use Rattle.std.specs.Prelude.{◌≡◌, ◌%◌, map, length, slice_index};
 ghost use Rattle.refusal.specs.Questions.{answered};
-ghost use Rattle.key.specs.Rows.{row_mean};
+ghost use Rattle.key.specs.Rows.{row_mean, is_one};
+ghost use Rattle.masking.specs.Masking.{size};
+ghost use Rattle.shares.specs.Splits.{part_of_number};
+ghost use Rattle.shares.specs.Shifts.{low_point, shift_rest};
 ghost use Rattle.comparison.specs.Comparison.{answer_mean, RowsAfter};
+ghost use Rattle.gatemath.specs.Elements.{step_of, word_mean};
+ghost use Rattle.gatemath.specs.Signs.{asked_at, share_by};
 ghost use Rattle.gates.specs.Questions.{numbers_of, held_of};
-ghost use Rattle.gates.specs.Shift.{shift_numbers, signed_shift_numbers};
 ghost use Rattle.gates.specs.ShiftQuestions.{shift_row_asks, shift_asks};
-ghost use Rattle.gatemath.specs.Elements.{word_mean};
-ghost use Rattle.gates.specs.Shift.{fresh_shift_mean, dealt_shift_key, low_rows_of, high_rows_of, low_at};
-ghost use Rattle.gates.specs.Shift.{high_at, shift_share_at, signed_share_at, shift_held, signed_shift_held};
+ghost use Rattle.gates.specs.Shift.{fresh_shift_mean, dealt_shift_key, low_rows_of, high_rows_of};
+ghost use Rattle.gates.specs.Shift.{low_roots, high_roots, low_at, high_at, share_at_by, numbers_by, held_by};
 
-use crate::interval_key::own_root;
+use crate::interval_key::deal_ends;
 use crate::questions::{ask_shift, ask_shift_rows};
 use crate::states::{Fresh, GateAnswers, Half, exchange};
-use dealing::deal;
 use evaluation::answer;
-use expander::{Expander, Seed};
-use gatekeys::{Shift, root_from};
+use expander::Expander;
+use gatekeys::{Shift, ShiftGate, Sign, root_from};
 use gatemath::{
-    low_bits, low_key_payload, number_part, rest_for, shift_share, signed_point, signed_share,
-    step_count,
+    low_bits, low_key_payload, number_part, point_at, rest_for, shift_share, step_count,
 };
 use group::{Group, Word};
-use key::{BoxNumber, Row, Rows};
+use key::{BoxNumber, Roots, Rows};
+use keyform::ShiftParts;
 use masking::{Masked, Share};
 use refusal::Refusal;
-use std::marker::PhantomData;
 
 // One box's key of a shift, but for the rows of its two comparison keys, which stand in the caller's tables.
 #[derive(Drop)]
 pub struct ShiftKey<G> {
     pub(crate) number: BoxNumber,
     pub(crate) shift: Shift,
-    pub(crate) low_root: Seed,
-    pub(crate) low_last: G,
-    pub(crate) high_root: Seed,
-    pub(crate) high_last: G,
-    pub(crate) rest: u32,
+    pub(crate) parts: ShiftParts<G>,
 }
 
-// One box's key of a shift on a wire with this mask: the rows into the two tables, the rest as the fresh key.
+// The tables of a shift's two comparison keys, the low one and the high one.
+#[derive(Drop)]
+pub struct ShiftRows<'a> {
+    pub low: Rows<'a, Word>,
+    pub high: Rows<'a, Word>,
+}
+
+// Words 1 to 4 are the low key's roots, and words 5 to 8 the high key's.
+fn low_roots(words: &[u64; 10]) -> Roots
+    ensures { result ≡ low_roots words.now }
+{
+    Roots {
+        zero: root_from(words[1], words[2]),
+        one: root_from(words[3], words[4]),
+    }
+}
+
+fn high_roots(words: &[u64; 10]) -> Roots
+    ensures { result ≡ high_roots words.now }
+{
+    Roots {
+        zero: root_from(words[5], words[6]),
+        one: root_from(words[7], words[8]),
+    }
+}
+
+// A box's part of the rest: word 0 is the output mask, and word 9 box 1's part.
+fn rest_part(number: BoxNumber, gate: &ShiftGate) -> u32
+    ensures { let N = size gate.now.shift.width in result ≡ part_of_number (is_one number) N
+        (shift_rest N (step_of gate.now.shift) gate.now.mask (slice_index gate.now.words 0 % N)) (slice_index gate.now.words 9) }
+{
+    let width = gate.shift.width();
+    let rest = rest_for(gate.shift, gate.mask, width.reduce(gate.words[0]));
+    number_part(width, number, rest, gate.words[9])
+}
+
+// One box's key of a shift: the rows into the two tables, the rest as the fresh key.
 fn shift_key<X: Expander>(
     expander: &X,
     number: BoxNumber,
-    shift: Shift,
-    mask: u32,
-    words: &[u64; 10],
-    low: &mut Rows<Word>,
-    high: &mut Rows<Word>,
+    gate: &ShiftGate,
+    rows: &mut ShiftRows,
 ) -> Fresh<ShiftKey<Word>>
     ensures key { fresh_shift_mean word_mean result
-        ≡ dealt_shift_key X.Expander.meaning number shift mask words.now
-        (length low.old.rows.now) (length high.old.rows.now) }
-    ensures low { map (row_mean word_mean) low.new.rows.now
-        ≡ low_rows_of X.Expander.meaning shift mask words.now (length low.old.rows.now) }
-    ensures high { map (row_mean word_mean) high.new.rows.now
-        ≡ high_rows_of X.Expander.meaning shift mask words.now (length high.old.rows.now) }
-    ensures same_low { low.new.rows.ghost_name ≡ low.old.rows.ghost_name }
-    ensures same_high { high.new.rows.ghost_name ≡ high.old.rows.ghost_name }
+        ≡ dealt_shift_key X.Expander.meaning number gate.now.shift gate.now.mask gate.now.words
+        (length rows.old.low.rows.now) (length rows.old.high.rows.now) }
+    ensures low { map (row_mean word_mean) rows.new.low.rows.now
+        ≡ low_rows_of X.Expander.meaning gate.now.shift gate.now.mask gate.now.words (length rows.old.low.rows.now) }
+    ensures high { map (row_mean word_mean) rows.new.high.rows.now
+        ≡ high_rows_of X.Expander.meaning gate.now.shift gate.now.mask gate.now.words (length rows.old.high.rows.now) }
+    ensures same_low { rows.new.low.rows.ghost_name ≡ rows.old.low.rows.ghost_name }
+    ensures same_high { rows.new.high.rows.ghost_name ≡ rows.old.high.rows.ghost_name }
 {
-    let width = shift.width();
-    let low0 = root_from(words[1], words[2]);
-    let low1 = root_from(words[3], words[4]);
-    let high0 = root_from(words[5], words[6]);
-    let high1 = root_from(words[7], words[8]);
-    let low_last = deal(
-        expander,
-        low_bits(shift, mask),
-        low_key_payload(),
-        low0,
-        low1,
-        low,
-    );
-    let high_last = deal(expander, mask, Word(step_count(shift)), high0, high1, high);
-    let rest = number_part(
-        width,
+    let shift = gate.shift;
+    let below = low_bits(shift, gate.mask);
+    let steps = Word(step_count(shift));
+    Fresh::new(ShiftKey {
         number,
-        rest_for(shift, mask, width.reduce(words[0])),
-        words[9],
-    );
-    let low_root = own_root(number, low0, low1);
-    let high_root = own_root(number, high0, high1);
-    Fresh {
-        key: ShiftKey {
-            number,
-            shift,
-            low_root,
-            low_last,
-            high_root,
-            high_last,
-            rest,
+        shift,
+        parts: ShiftParts {
+            low: deal_ends(
+                expander,
+                number,
+                below,
+                low_key_payload(),
+                low_roots(&gate.words),
+                &mut rows.low,
+            ),
+            high: deal_ends(
+                expander,
+                number,
+                gate.mask,
+                steps,
+                high_roots(&gate.words),
+                &mut rows.high,
+            ),
+            rest: rest_part(number, gate),
         },
-    }
+    })
 }
 
 // Deals one box's key of a shift, where the low table has as many rows as the shift and the high one as the width; else
@@ -99,130 +122,68 @@ fn shift_key<X: Expander>(
 pub fn deal_shift<X: Expander>(
     expander: &X,
     number: BoxNumber,
-    shift: Shift,
-    mask: u32,
-    words: &[u64; 10],
-    low: &mut Rows<Word>,
-    high: &mut Rows<Word>,
+    gate: &ShiftGate,
+    rows: &mut ShiftRows,
 ) -> Result<Fresh<ShiftKey<Word>>, Refusal>
     ensures key { answer_mean (fresh_shift_mean word_mean) result
-        ≡ answered (shift_row_asks shift (length low.old.rows.now) (length high.old.rows.now))
-        (dealt_shift_key X.Expander.meaning number shift mask words.now shift.by shift.width.bits) }
-    ensures low { RowsAfter word_mean result low.old.rows.now low.new.rows.now
-        (low_rows_of X.Expander.meaning shift mask words.now shift.by) }
-    ensures high { RowsAfter word_mean result high.old.rows.now high.new.rows.now
-        (high_rows_of X.Expander.meaning shift mask words.now shift.width.bits) }
-    ensures same_low { low.new.rows.ghost_name ≡ low.old.rows.ghost_name }
-    ensures same_high { high.new.rows.ghost_name ≡ high.old.rows.ghost_name }
+        ≡ answered (shift_row_asks gate.now.shift (length rows.old.low.rows.now) (length rows.old.high.rows.now))
+        (dealt_shift_key X.Expander.meaning number gate.now.shift gate.now.mask gate.now.words
+        gate.now.shift.by gate.now.shift.width.bits) }
+    ensures low { RowsAfter word_mean result rows.old.low.rows.now rows.new.low.rows.now
+        (low_rows_of X.Expander.meaning gate.now.shift gate.now.mask gate.now.words gate.now.shift.by) }
+    ensures high { RowsAfter word_mean result rows.old.high.rows.now rows.new.high.rows.now
+        (high_rows_of X.Expander.meaning gate.now.shift gate.now.mask gate.now.words gate.now.shift.width.bits) }
+    ensures same_low { rows.new.low.rows.ghost_name ≡ rows.old.low.rows.ghost_name }
+    ensures same_high { rows.new.high.rows.ghost_name ≡ rows.old.high.rows.ghost_name }
 {
-    ask_shift_rows(shift, low.count(), high.count())?;
-    Ok(shift_key(expander, number, shift, mask, words, low, high))
+    ask_shift_rows(gate.shift, rows)?;
+    Ok(shift_key(expander, number, gate, rows))
 }
 
 impl ShiftKey<Word> {
-    fn low_answer<X: Expander>(&self, expander: &X, rows: &[Row<Word>], point: u32) -> Word
-        ensures { word_mean result ≡ low_at X.Expander.meaning word_mean self.now rows.now point }
+    // A box's share at the held value m.
+    fn share_at<X: Expander>(&self, expander: &X, sign: Sign, rows: &ShiftRows, m: u32) -> u32
+        ensures { let N = size self.now.shift.width in let S = step_of self.now.shift in let h = asked_at sign N m in
+            result ≡ share_by sign (is_one self.now.number) N S m
+            (low_at X.Expander.meaning word_mean self.now rows.now.low.rows.now (low_point S h)).0
+            (high_at X.Expander.meaning word_mean self.now rows.now.high.rows.now h).0 self.now.parts.rest }
     {
-        answer(
+        let at = point_at(sign, self.shift.width(), m);
+        let below = low_bits(self.shift, at);
+        let low = answer(
             expander,
             self.number,
-            self.low_root,
-            rows,
-            self.low_last,
-            point,
-        )
-    }
-
-    fn high_answer<X: Expander>(&self, expander: &X, rows: &[Row<Word>], point: u32) -> Word
-        ensures { word_mean result ≡ high_at X.Expander.meaning word_mean self.now rows.now point }
-    {
-        answer(
+            self.parts.low,
+            rows.low.as_slice(),
+            below,
+        );
+        let high = answer(
             expander,
             self.number,
-            self.high_root,
-            rows,
-            self.high_last,
-            point,
-        )
-    }
-
-    fn share_at<X: Expander>(
-        &self,
-        expander: &X,
-        low: &[Row<Word>],
-        high: &[Row<Word>],
-        m: u32,
-    ) -> u32
-        ensures { result ≡ shift_share_at X.Expander.meaning word_mean self.now low.now high.now m }
-    {
-        let at_low = self.low_answer(expander, low, low_bits(self.shift, m));
-        let at_high = self.high_answer(expander, high, m);
-        shift_share(self.number, self.shift, m, at_low, at_high, self.rest)
-    }
-
-    fn signed_share_at<X: Expander>(
-        &self,
-        expander: &X,
-        low: &[Row<Word>],
-        high: &[Row<Word>],
-        m: u32,
-    ) -> u32
-        ensures { result ≡ signed_share_at X.Expander.meaning word_mean self.now low.now high.now m }
-    {
-        let k = signed_point(self.shift.width(), m);
-        let at_low = self.low_answer(expander, low, low_bits(self.shift, k));
-        let at_high = self.high_answer(expander, high, k);
-        signed_share(self.number, self.shift, m, at_low, at_high, self.rest)
+            self.parts.high,
+            rows.high.as_slice(),
+            at,
+        );
+        shift_share(sign, self.number, self.shift, m, low, high, self.parts.rest)
     }
 }
 
 impl Fresh<ShiftKey<Word>> {
-    // A box's share of a shift at the held value m. The key is used up.
+    // A box's share of a shift at the held value m, of unsigned or of signed values. The key is used up.
     pub fn answer_shift<X: Expander>(
         self,
         expander: &X,
-        low: &Rows<Word>,
-        high: &Rows<Word>,
+        sign: Sign,
+        rows: &ShiftRows,
         m: Masked,
     ) -> Half<Word>
         ensures share { result.own.0
-            ≡ shift_share_at X.Expander.meaning word_mean self.key low.now.rows.now high.now.rows.now m.0 }
+            ≡ share_at_by X.Expander.meaning sign word_mean self.key rows.now.low.rows.now rows.now.high.rows.now m.0 }
         ensures width { result.width ≡ self.key.shift.width }
     {
         let width = self.key.shift.width();
-        let own = Share(
-            self.key
-                .share_at(expander, low.as_slice(), high.as_slice(), m.0),
-        );
-        Half {
-            width,
-            own,
-            group: PhantomData,
-        }
-    }
-
-    // A box's share of a signed shift at the held value m. The key is used up.
-    pub fn answer_signed_shift<X: Expander>(
-        self,
-        expander: &X,
-        low: &Rows<Word>,
-        high: &Rows<Word>,
-        m: Masked,
-    ) -> Half<Word>
-        ensures share { result.own.0
-            ≡ signed_share_at X.Expander.meaning word_mean self.key low.now.rows.now high.now.rows.now m.0 }
-        ensures width { result.width ≡ self.key.shift.width }
-    {
-        let width = self.key.shift.width();
-        let own = Share(
-            self.key
-                .signed_share_at(expander, low.as_slice(), high.as_slice(), m.0),
-        );
-        Half {
-            width,
-            own,
-            group: PhantomData,
-        }
+        let own = self.key.share_at(expander, sign, rows, m.0);
+        Half::new(width, Share(own))
     }
 }
 
@@ -232,127 +193,43 @@ pub fn shift_gate<D: Expander, X: Expander, Y: Expander>(
     dealer: &D,
     box0: &X,
     box1: &Y,
-    shift: Shift,
-    mask: u32,
-    words: &[u64; 10],
-    low0: &mut Rows<Word>,
-    high0: &mut Rows<Word>,
-    low1: &mut Rows<Word>,
-    high1: &mut Rows<Word>,
+    gate: &ShiftGate,
+    rows0: &mut ShiftRows,
+    rows1: &mut ShiftRows,
     m: Masked,
 ) -> Result<GateAnswers, Refusal>
     ensures numbers { answer_mean numbers_of result
-        ≡ answered (shift_asks shift mask m.0 (length low0.old.rows.now) (length high0.old.rows.now)
-        (length low1.old.rows.now) (length high1.old.rows.now))
-        (shift_numbers D.Expander.meaning X.Expander.meaning Y.Expander.meaning shift mask words.now m.0) }
+        ≡ answered (shift_asks gate.now.shift gate.now.mask m.0 (length rows0.old.low.rows.now)
+        (length rows0.old.high.rows.now) (length rows1.old.low.rows.now) (length rows1.old.high.rows.now))
+        (numbers_by D.Expander.meaning X.Expander.meaning Y.Expander.meaning gate.now.shift gate.now.mask gate.now.words m.0
+        gate.now.sign) }
     ensures joins { D.Expander.meaning ≡ X.Expander.meaning → D.Expander.meaning ≡ Y.Expander.meaning
         → answer_mean held_of result
-        ≡ answered (shift_asks shift mask m.0 (length low0.old.rows.now) (length high0.old.rows.now)
-        (length low1.old.rows.now) (length high1.old.rows.now))
-        (shift_held shift mask words.now m.0) }
-    ensures low0 { RowsAfter word_mean result low0.old.rows.now low0.new.rows.now
-        (low_rows_of D.Expander.meaning shift mask words.now shift.by) }
-    ensures high0 { RowsAfter word_mean result high0.old.rows.now high0.new.rows.now
-        (high_rows_of D.Expander.meaning shift mask words.now shift.width.bits) }
-    ensures low1 { RowsAfter word_mean result low1.old.rows.now low1.new.rows.now
-        (low_rows_of D.Expander.meaning shift mask words.now shift.by) }
-    ensures high1 { RowsAfter word_mean result high1.old.rows.now high1.new.rows.now
-        (high_rows_of D.Expander.meaning shift mask words.now shift.width.bits) }
+        ≡ answered (shift_asks gate.now.shift gate.now.mask m.0 (length rows0.old.low.rows.now)
+        (length rows0.old.high.rows.now) (length rows1.old.low.rows.now) (length rows1.old.high.rows.now))
+        (held_by gate.now.sign gate.now.shift gate.now.mask gate.now.words m.0) }
+    ensures low0 { RowsAfter word_mean result rows0.old.low.rows.now rows0.new.low.rows.now
+        (low_rows_of D.Expander.meaning gate.now.shift gate.now.mask gate.now.words gate.now.shift.by) }
+    ensures high0 { RowsAfter word_mean result rows0.old.high.rows.now rows0.new.high.rows.now
+        (high_rows_of D.Expander.meaning gate.now.shift gate.now.mask gate.now.words gate.now.shift.width.bits) }
+    ensures low1 { RowsAfter word_mean result rows1.old.low.rows.now rows1.new.low.rows.now
+        (low_rows_of D.Expander.meaning gate.now.shift gate.now.mask gate.now.words gate.now.shift.by) }
+    ensures high1 { RowsAfter word_mean result rows1.old.high.rows.now rows1.new.high.rows.now
+        (high_rows_of D.Expander.meaning gate.now.shift gate.now.mask gate.now.words gate.now.shift.width.bits) }
 {
-    ask_shift(
-        shift,
-        mask,
-        m,
-        low0.count(),
-        high0.count(),
-        low1.count(),
-        high1.count(),
-    )?;
-    let key0 = shift_key(dealer, BoxNumber::Zero, shift, mask, words, low0, high0);
-    let key1 = shift_key(dealer, BoxNumber::One, shift, mask, words, low1, high1);
-    let half0 = key0.answer_shift(box0, low0, high0, m);
-    let half1 = key1.answer_shift(box1, low1, high1, m);
+    ask_shift(gate, m, rows0, rows1)?;
+    let key0 = shift_key(dealer, BoxNumber::Zero, gate, rows0);
+    let key1 = shift_key(dealer, BoxNumber::One, gate, rows1);
+    let half0 = key0.answer_shift(box0, gate.sign, rows0, m);
+    let half1 = key1.answer_shift(box1, gate.sign, rows1, m);
     Ok(exchange(half0, half1))
 }
 
-// The same for a signed shift.
-pub fn signed_shift_gate<D: Expander, X: Expander, Y: Expander>(
-    dealer: &D,
-    box0: &X,
-    box1: &Y,
-    shift: Shift,
-    mask: u32,
-    words: &[u64; 10],
-    low0: &mut Rows<Word>,
-    high0: &mut Rows<Word>,
-    low1: &mut Rows<Word>,
-    high1: &mut Rows<Word>,
-    m: Masked,
-) -> Result<GateAnswers, Refusal>
-    ensures numbers { answer_mean numbers_of result
-        ≡ answered (shift_asks shift mask m.0 (length low0.old.rows.now) (length high0.old.rows.now)
-        (length low1.old.rows.now) (length high1.old.rows.now))
-        (signed_shift_numbers D.Expander.meaning X.Expander.meaning Y.Expander.meaning shift mask words.now m.0) }
-    ensures joins { D.Expander.meaning ≡ X.Expander.meaning → D.Expander.meaning ≡ Y.Expander.meaning
-        → answer_mean held_of result
-        ≡ answered (shift_asks shift mask m.0 (length low0.old.rows.now) (length high0.old.rows.now)
-        (length low1.old.rows.now) (length high1.old.rows.now))
-        (signed_shift_held shift mask words.now m.0) }
-    ensures low0 { RowsAfter word_mean result low0.old.rows.now low0.new.rows.now
-        (low_rows_of D.Expander.meaning shift mask words.now shift.by) }
-    ensures high0 { RowsAfter word_mean result high0.old.rows.now high0.new.rows.now
-        (high_rows_of D.Expander.meaning shift mask words.now shift.width.bits) }
-    ensures low1 { RowsAfter word_mean result low1.old.rows.now low1.new.rows.now
-        (low_rows_of D.Expander.meaning shift mask words.now shift.by) }
-    ensures high1 { RowsAfter word_mean result high1.old.rows.now high1.new.rows.now
-        (high_rows_of D.Expander.meaning shift mask words.now shift.width.bits) }
-{
-    ask_shift(
-        shift,
-        mask,
-        m,
-        low0.count(),
-        high0.count(),
-        low1.count(),
-        high1.count(),
-    )?;
-    let key0 = shift_key(dealer, BoxNumber::Zero, shift, mask, words, low0, high0);
-    let key1 = shift_key(dealer, BoxNumber::One, shift, mask, words, low1, high1);
-    let half0 = key0.answer_signed_shift(box0, low0, high0, m);
-    let half1 = key1.answer_signed_shift(box1, low1, high1, m);
-    Ok(exchange(half0, half1))
-}
-
-// What a box is given, for a book or a reader.
 impl<G: Group> Fresh<ShiftKey<G>> {
-    pub fn low_root(&self) -> Seed
-        ensures { result ≡ self.now.key.low_root }
+    // What a box is given, for a book or a reader.
+    pub fn parts(&self) -> ShiftParts<G>
+        ensures { result ≡ self.now.key.parts }
     {
-        self.key.low_root
-    }
-
-    pub fn low_last(&self) -> G
-        ensures { result ≡ self.now.key.low_last }
-    {
-        self.key.low_last
-    }
-
-    pub fn high_root(&self) -> Seed
-        ensures { result ≡ self.now.key.high_root }
-    {
-        self.key.high_root
-    }
-
-    pub fn high_last(&self) -> G
-        ensures { result ≡ self.now.key.high_last }
-    {
-        self.key.high_last
-    }
-
-    // The box's part of the rest.
-    pub fn rest(&self) -> u32
-        ensures { result ≡ self.now.key.rest }
-    {
-        self.key.rest
+        self.key.parts
     }
 }

@@ -3,14 +3,22 @@ ghost use Rattle.std.specs.Prelude.{◌≡◌, ℕ};
 ghost use Rattle.masking.specs.Masking.{size};
 ghost use Rattle.shares.specs.Local.{sum_of, xor_of};
 
-use group::{Flags, Group, Pair, Quad, Word};
-use masking::{Masked, Share, Width, sum, xor};
+use group::{Flags, Group, Quad, Word};
+use masking::{Masked, Share, Width, xor};
 use std::marker::PhantomData;
 
 // A gate key that has answered nothing yet. Answering uses it up: for another answer, deal another gate.
 #[derive(Drop)]
 pub struct Fresh<K> {
     pub(crate) key: K,
+}
+
+impl<K> Fresh<K> {
+    pub(crate) fn new(key: K) -> Fresh<K>
+        ensures { result.key ≡ key }
+    {
+        Fresh { key }
+    }
 }
 
 // A gate key that has answered, with the own share. Only a half can be joined: answer first.
@@ -40,15 +48,16 @@ impl Shared for Word {
     ghost together = { sum_of };
 
     fn join_shares(width: Width, own: Share, other: Share) -> Masked {
-        Masked(sum(width, own.0, other.0))
+        Masked(width.sum(own.0, other.0))
     }
 }
 
-impl Shared for Pair<Pair<Word, Word>, Pair<Word, Word>> {
+// As words are.
+impl Shared for Quad {
     ghost together = { sum_of };
 
     fn join_shares(width: Width, own: Share, other: Share) -> Masked {
-        Masked(sum(width, own.0, other.0))
+        Word::join_shares(width, own, other)
     }
 }
 
@@ -61,6 +70,17 @@ impl Shared for Flags {
 }
 
 impl<G> Half<G> {
+    pub(crate) fn new(width: Width, own: Share) -> Half<G>
+        ensures width { result.width ≡ width }
+        ensures own { result.own ≡ own }
+    {
+        Half {
+            width,
+            own,
+            group: PhantomData,
+        }
+    }
+
     // The share that goes to the other box.
     pub fn share(&self) -> Share
         ensures { result ≡ self.now.own }

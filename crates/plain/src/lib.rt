@@ -11,6 +11,9 @@ ghost use Rattle.shares.specs.Plain.{signed, remainder, plain_signed_shift};
 use gatekeys::{Interval, Shift};
 use masking::{Reading, Width, xor};
 
+// Stays: functions and no methods of `Width`, `Interval` and `Shift`, whose crates know no plain meanings; one trait for
+// all gates would be no plainer, since each takes what is its own.
+
 pub fn plain_sum(width: Width, v: Reading, w: Reading) -> Reading
     ensures { result.0 ≡ plain_sum (size width) v.0 w.0 }
 {

@@ -1,49 +1,27 @@
-use Rattle.std.proofs.Common.{◌≡◌, ℕ, ◌%◌, cond, length, get_or, refl, ap, ◌∙◌}
-use Rattle.key.specs.Rows.{is_one}
-use Rattle.masking.specs.Masking.{size}
-use Rattle.shares.specs.Splits.{part_of_number}
+use Rattle.std.proofs.Common.{◌≡◌, ℕ, length, refl, ap, ◌∙◌}
 use Rattle.shares.specs.Words as group
-use Rattle.shares.specs.Shifts.{shift_rest}
-use Rattle.gatemath.specs.Elements.{step_of}
-use Rattle.gates.specs.Shift.{low_root0, high_root0}
-use Rattle.gates.proofs.ShiftKeys.{same_rows, same_last, same_key}
+use Rattle.gatemath.specs.Elements.{word_mean}
+use Rattle.gates.specs.Shift.{shift_key_mean}
+use Rattle.gates.proofs.Ends.{same_ends, same_rows, same_key}
 use Rattle.gates.proofs.shift.shift_key.Goals as goal
 
 pub returns : goal.returns
 returns g c =
     let x = g.X.Expander.meaning in
-    let s = c.args.shift in
-    let r : ℕ = c.args.mask in
     let b = c.args.number in
-    let ws = c.args.words.now in
-    let w = c.width-width.ensures in
-    let N : ℕ = size s.width in
-    let S : ℕ = step_of s in
-    let l : ℕ = length c.args.low.now.rows.now in
-    let h : ℕ = length c.args.high.now.rows.now in
-    let one = is_one b in
-    let same-mask : r ≡ r = refl in
-    let low0 = c.root_from-low0.ensures in
-    let low1 = c.root_from-low1.ensures in
-    let high0 = c.root_from-high0.ensures in
-    let high1 = c.root_from-high1.ensures in
-    let low = c.deal-low_last.ensures in
-    let high = c.deal-high_last.ensures in
-    let count = ap group.word c.step_count.ensures in
-    let below = c.low_bits.ensures in
-    let mask = c.reduce.ensures ∙ ap (λ t. get_or ws 0 0 % size t) w in
-    let rest = c.number_part-rest.ensures
-    ∙ ap (λ t. part_of_number one (size t) c.rest_for.result (get_or ws 9 0)) w
-    ∙ ap (λ t. part_of_number one N t (get_or ws 9 0)) (c.rest_for.ensures ∙ ap (shift_rest N S r) mask) in
-    let low-root = c.own_root-low_root.ensures ∙ ap (λ t. cond one c.root_from-low1.result t) low0 ∙ ap (λ t. cond one t (low_root0 ws)) low1 in
-    let high-root = c.own_root-high_root.ensures ∙ ap (λ t. cond one c.root_from-high1.result t) high0 ∙ ap (λ t. cond one t (high_root0 ws)) high1 in
+    let mask : ℕ = c.args.gate.now.mask in
+    let l : ℕ = length c.args.rows.now.low.rows.now in
+    let h : ℕ = length c.args.rows.now.high.rows.now in
+    let r : mask ≡ mask = refl in
+    let below = c.low_bits-below.ensures in
+    let minus = c.low_key_payload.ensures in
+    let steps = ap group.word c.step_count.ensures in
+    let low_ends = c.deal_ends.ensures.ends ∙ same_ends x group.words below minus c.low_roots.ensures l b in
+    let high_ends = c.deal_ends-2.ensures.ends ∙ same_ends x group.words r steps c.high_roots.ensures h b in
     record {
-      key = same_key b s
-          low-root (low.last ∙ same_last x group.words l c.low_key_payload.ensures below low0 low1)
-          high-root (high.last ∙ same_last x group.words h count same-mask high0 high1)
-          rest;
-      low = low.rows ∙ same_rows x group.words l c.low_key_payload.ensures below low0 low1;
-      high = high.rows ∙ same_rows x group.words h count same-mask high0 high1;
-      same_low = low.same;
-      same_high = high.same;
+      key = ap (shift_key_mean word_mean) c.new.ensures ∙ same_key low_ends high_ends c.rest_part.ensures;
+      low = c.deal_ends.ensures.rows ∙ same_rows x group.words below minus c.low_roots.ensures l;
+      high = c.deal_ends-2.ensures.rows ∙ same_rows x group.words r steps c.high_roots.ensures h;
+      same_low = c.deal_ends.ensures.same;
+      same_high = c.deal_ends-2.ensures.same;
     }
