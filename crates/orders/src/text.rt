@@ -88,6 +88,7 @@ pub fn number_of<N: Number>(word: &[u8]) -> Result<N, Wrong>
 pub fn hex_digit(b: u8) -> Result<u8, Wrong>
     ensures { result ≡ hex_of b }
 {
+    // Stays: a closure would not know that the digit fits a byte.
     match (b as char).to_digit(16) {
         Some(digit) => Ok(digit as u8),
         None => Err(Wrong::NotHex),
