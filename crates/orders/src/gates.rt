@@ -76,6 +76,9 @@ fn piece_body(line: &[u8]) -> Result<GateBody, Fault>
     )
 }
 
+// Stays: each gate lists the fields of its own; what two of them share is a line each, so that one function for both would be no
+// plainer.
+
 // MASK LOW HIGH PATTERN WORDS
 fn flag_body(line: &[u8]) -> Result<GateBody, Fault>
     ensures { result ≡ body_of Flag (words line.now) }
