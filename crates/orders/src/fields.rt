@@ -1,9 +1,8 @@
 // Words of a line as what they must be.
-ghost use Rattle.std.specs.Prelude.{◌≡◌};
+ghost use Rattle.std.specs.Prelude.{◌≡◌, [], slice_index_or};
 ghost use Rattle.std.specs.Fn.{FnOnceReturnsAt};
 ghost use Rattle.orders.specs.Grammar.{kind_of, group_of, parts, payload_of, placed, field, ended};
 ghost use Rattle.orders.specs.Text.{words, nth, pieces, number_of};
-ghost use Rattle.std.specs.Prelude.{[], slice_index_or};
 
 use crate::number::Number;
 use crate::text::{number_of, piece_at, pieces_of, word_at};

@@ -1,5 +1,5 @@
 // Lines cut into words, and words read as numbers and seeds.
-ghost use Rattle.std.specs.Prelude.{◌≡◌, ◌+◌, ◌*◌, ◌^◌, ◌<◌, ◌≤◌, min, true, [], length, IfOk, slice_index_or};
+ghost use Rattle.std.specs.Prelude.{◌≡◌, ◌^◌, ◌<◌, ◌≤◌, min, true, [], length, IfOk, slice_index_or};
 ghost use Rattle.orders.specs.Text.{pieces, words, nth, digits, numeral, value, decimal_of, number_of};
 ghost use Rattle.orders.specs.Text.{hexes, hex_of, or_zero, byte_of, hex_bytes, HexBytes, seed_from};
 
