@@ -53,7 +53,7 @@ fn value_of(word: &[u8], top: u128) -> u128
     requires { (digits word.now ≡ true) × (top ≤ 2 ^ 64) }
     ensures { result ≡ min (value word.now) top }
 {
-    // Stays: the closure of a fold would not know that each byte is a digit.
+    // Stays: a fold was tried; its proof did not close, since the closure does not know that each byte is a digit.
     let mut sum: u128 = 0;
     for b in word {
         sum = (sum * 10 + (*b - b'0') as u128).min(top);
