@@ -25,6 +25,8 @@ pub struct PlanRow {
 }
 
 // Wires count the inputs first, then the gates.
+// Stays: a struct that is copied has no model where it has a lifetime; clauses say `stated`.
+// Stays: owners are bytes, since any byte is asked about (question 3), and a book writes them as they are.
 #[derive(Clone, Copy)]
 pub struct Plan<'a> {
     pub width: u8,

@@ -6,6 +6,7 @@ use crate::BookHeader;
 use bodies::{WireBody, after, byte_in, gate_in, input_in, number_in, part_of};
 use plan::{GateKind, Wires};
 
+// Stays: a book is any bytes that a box is given, so what reads one takes bytes.
 pub fn header_in(book: &[u8]) -> BookHeader
     ensures { headed result ≡ header_in book.now }
 {

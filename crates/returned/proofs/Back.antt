@@ -2,15 +2,15 @@
 use Rattle.std.proofs.Common.{◌≡◌, ℕ, ◌^◌, ◌<◌, ◌≤◌, Bool, true, false, cond, eqb, List, length, get_or, sym, refl, ap, ◌∙◌, arith}
 use Rattle.std.proofs.lemmas.Bool.{and_parts, ltb-true, ltb-false, eqb-true, eqb-false}
 use Rattle.expander.specs.Meaning.{Expansion}
-use Rattle.plan.specs.declared.GateBody.{GateBody}
-use Rattle.plan.specs.declared.GateBody.TheVariants.{Sum, Scale, Product, Piece, Flag, Shift, SignedShift, Xor}
+use Rattle.plan.specs.Gates.{GateBody}
+use Rattle.plan.specs.declared.gates.Gate.TheVariants.{Sum, Scale, Product, Piece, Flag, Shift, SignedShift, Xor}
 use Rattle.plan.specs.Plans as plan
 use Rattle.plan.specs.Plans.{Planned, wires, is_input, is_flag, row_at}
 use Rattle.plan.specs.Questions as plan_asks
 use Rattle.plan.specs.Questions.{plan_asks, within, owners_fit, interval_fits, all_below}
 use Rattle.layout.specs.Wires.{Gate, input, gate, wire_bytes}
 use Rattle.layout.specs.Books.{laid_out}
-use Rattle.bodies.specs.Heads.{gives_flag, head_fits, reads_fit}
+use Rattle.bodies.specs.Heads.{gives_flag, numbers_fit, reads_fit}
 use Rattle.bodies.specs.Allowed.{head, mask_allowed, GateAllowed, input_allowed}
 use Rattle.masks.specs.Masks.{masks, mask_of}
 use Rattle.gatebytes.specs.Dealt.{dealt_gate}
@@ -33,7 +33,7 @@ module _ (x : Expansion) (n : ℕ) (one : Bool) (ms w : List ℕ) where
   flag_dealt (SignedShift a s) = refl
   flag_dealt (Xor a b) = refl
 
-  fields_dealt : (b : GateBody) → plan_asks.fields_fit n b ≡ true → head_fits n (head (dealt_gate x n one ms w b)) ≡ true
+  fields_dealt : (b : GateBody) → plan_asks.fields_fit n b ≡ true → numbers_fit n (head (dealt_gate x n one ms w b)) ≡ true
   fields_dealt (Sum a b) h = refl
   fields_dealt (Scale a c d) h = h
   fields_dealt (Product a b) h = refl

@@ -12,8 +12,8 @@ use Rattle.gates.specs.Flag.{flag_draws}
 use Rattle.gates.specs.Shift.{low_root0, low_root1, high_root0, high_root1}
 use Rattle.shares.specs.Splits.{part_of_number, part_of_flags}
 use Rattle.dealing.specs.Dealing.{start, dealt_rows}
-use Rattle.plan.specs.declared.GateBody.{GateBody}
-use Rattle.plan.specs.declared.GateBody.TheVariants.{Sum, Scale, Product, Piece, Flag, Shift, SignedShift, Xor}
+use Rattle.plan.specs.Gates.{GateBody}
+use Rattle.plan.specs.declared.gates.Gate.TheVariants.{Sum, Scale, Product, Piece, Flag, Shift, SignedShift, Xor}
 use Rattle.plan.specs.Plans.{Planned, wires, is_input, row_at, gives_flag, is_flag, words_before}
 use Rattle.bodies.specs.Allowed.{key_allowed}
 use Rattle.masks.specs.Masks.{gate_mask, mask_at, masks_below, mask_of}
@@ -46,10 +46,10 @@ key_dealt x n one ms w (Scale a c d) = tt
 key_dealt x n one ms w (Product a b) = (part_small n one _ _, part_small n one _ _, part_small n one _ _)
 key_dealt x n one ms w (Piece a p q c) =
     let r = get_or ms a 0 in
-    (rows_count x quads (payload_of r c) (threshold (2 ^ n) r) n (start quads (piece_draws w).root0 (piece_draws w).root1), part_small n one _ _)
+    (rows_count x quads (payload_of r c) (threshold (2 ^ n) r) n (start quads (piece_draws w).roots.zero (piece_draws w).roots.one), part_small n one _ _)
 key_dealt x n one ms w (Flag a p q t) =
     let r = get_or ms a 0 in (
-      rows_count x flags (flag_word t) (threshold (2 ^ n) r) n (start flags (flag_draws w).root0 (flag_draws w).root1),
+      rows_count x flags (flag_word t) (threshold (2 ^ n) r) n (start flags (flag_draws w).roots.zero (flag_draws w).roots.one),
       flags_small one _ _ (mod_lt 32 (get_or w 0 0)),
     )
 key_dealt x n one ms w (Shift a s) = (low_rows x n s (get_or ms a 0) w, high_rows x n s (get_or ms a 0) w, part_small n one _ _)

@@ -2,7 +2,7 @@
 #![tactic(auto)]
 
 ghost use Rattle.std.specs.Prelude.{◌≡◌, OnOk};
-ghost use Rattle.plan.specs.Plans.{planned};
+ghost use Rattle.plan.specs.Plans.{stated};
 ghost use Rattle.dealer.specs.Book.{order};
 ghost use Rattle.returned.specs.Returned.{Returned, DealtIsRead, dealt_and_checked};
 
@@ -23,13 +23,13 @@ pub fn deal_and_check<D: Expander, X: Expander>(
     out: &mut [u8],
 ) -> Result<usize, Refusal>
     ensures book { (result, out.new) ≡ dealt_and_checked D.Expander.meaning X.Expander.meaning.kind
-        (order (planned plan.entry.width plan.entry.owners.now plan.entry.rows.now) number deal_number words.now)
+        (order (stated plan.entry) number deal_number words.now)
         out.old }
     ensures returned { OnOk result (Returned D.Expander.meaning
-        (order (planned plan.entry.width plan.entry.owners.now plan.entry.rows.now) number deal_number words.now)) }
+        (order (stated plan.entry) number deal_number words.now)) }
 {
     let long = deal(dealer, plan, number, deal_number, words, out)?;
-    check_book(X::kind_number(), &out[0..long])?;
+    check_book(X::KIND, &out[0..long])?;
     Ok(long)
 }
 
