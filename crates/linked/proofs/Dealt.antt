@@ -8,8 +8,8 @@ use Rattle.joining.specs.Joining.{AllWide}
 use Rattle.key.specs.declared.BoxNumber.{BoxNumber}
 use Rattle.key.specs.declared.BoxNumber.TheVariants.{Zero, One}
 use Rattle.key.specs.Rows.{is_one}
-use Rattle.plan.specs.declared.GateBody.{GateBody}
-use Rattle.plan.specs.declared.GateBody.TheVariants as plan
+use Rattle.plan.specs.Gates.{GateBody, GateHead}
+use Rattle.plan.specs.declared.gates.Gate.TheVariants as plan
 use Rattle.plan.specs.Plans.{Planned, wires, is_input, row_at, no_row, gives_flag, is_keyed, reads}
 use Rattle.plan.specs.Questions.{plan_asks}
 use Rattle.plan.proofs.Accepted.{Accepted, accepted, owner_small}
@@ -18,8 +18,6 @@ use Rattle.layout.specs.Wires.{Gate, Wire, input, gate, wire_bytes, parameter_by
 use Rattle.layout.specs.Books.{wire_count}
 use Rattle.bodies.specs.declared.WireBody.{WireBody}
 use Rattle.bodies.specs.declared.WireBody.TheVariants as body
-use Rattle.bodies.specs.declared.GateHead.{GateHead}
-use Rattle.bodies.specs.Heads as heads
 use Rattle.bodies.specs.Heads.{parameters_long}
 use Rattle.bodies.specs.Bodies as bodies
 use Rattle.bodies.specs.Bodies.{head_in, shown_in, gate_in, input_in, key_in}
@@ -36,7 +34,7 @@ use Rattle.runs.specs.Boxes.{Slot, Act, box_byte, step}
 use Rattle.boxview.specs.Values.{values, box_of}
 use Rattle.boxview.specs.Sharing.{gate_share, gate_local}
 use Rattle.boxview.specs.Reading as view
-use Rattle.boxview.specs.Reading.{no_wire, or_none, wire_of, wiring_in, deal_in, WholeGate, HoldsGate, SharesOf, head_reads, head_keyed, head_local, owner_of, reads_of, keyed_of, shown_of, flag_of, local_of}
+use Rattle.boxview.specs.Reading.{no_wire, or_none, wire_of, wiring_in, deal_in, WholeGate, HoldsGate, SharesOf, head_local, owner_of, reads_of, keyed_of, shown_of, flag_of, local_of}
 use Rattle.boxview.specs.Steps.{box_step}
 use Rattle.sharing.specs.Wirings.{own, wiring_of, gate_of, deal_of}
 use Rattle.linked.specs.Linked.{BoxLinked, BoxesAreLinked}
@@ -46,7 +44,7 @@ use Rattle.linked.proofs.Whole.{gate_whole}
 
 -- what a dealt gate's head says, kind by kind
 module _ (x : Expansion) (n : ℕ) (one : Bool) (ms w : List ℕ) where
-  dealt_reads : (b : GateBody) → head_reads (head (dealt_gate x n one ms w b)) ≡ reads b
+  dealt_reads : (b : GateBody) → reads (head (dealt_gate x n one ms w b)) ≡ reads b
   dealt_reads (plan.Sum a b) = refl
   dealt_reads (plan.Scale a c d) = refl
   dealt_reads (plan.Product a b) = refl
@@ -56,7 +54,7 @@ module _ (x : Expansion) (n : ℕ) (one : Bool) (ms w : List ℕ) where
   dealt_reads (plan.SignedShift a s) = refl
   dealt_reads (plan.Xor a b) = refl
 
-  dealt_keyed : (b : GateBody) → head_keyed (head (dealt_gate x n one ms w b)) ≡ is_keyed b
+  dealt_keyed : (b : GateBody) → is_keyed (head (dealt_gate x n one ms w b)) ≡ is_keyed b
   dealt_keyed (plan.Sum a b) = refl
   dealt_keyed (plan.Scale a c d) = refl
   dealt_keyed (plan.Product a b) = refl
@@ -66,7 +64,7 @@ module _ (x : Expansion) (n : ℕ) (one : Bool) (ms w : List ℕ) where
   dealt_keyed (plan.SignedShift a s) = refl
   dealt_keyed (plan.Xor a b) = refl
 
-  dealt_flag : (b : GateBody) → heads.gives_flag (head (dealt_gate x n one ms w b)) ≡ gives_flag b
+  dealt_flag : (b : GateBody) → gives_flag (head (dealt_gate x n one ms w b)) ≡ gives_flag b
   dealt_flag (plan.Sum a b) = refl
   dealt_flag (plan.Scale a c d) = refl
   dealt_flag (plan.Product a b) = refl

@@ -11,8 +11,8 @@ use Rattle.layout.specs.Wires as wire
 use Rattle.layout.specs.Wires.{Gate, gate_key_bytes, interval_bytes, shift_bytes}
 use Rattle.keyform.proofs.Lengths.{key_long}
 use Rattle.keyform.proofs.Told.{same_front, same_back, seed_told, key_told, alike_mean}
-use Rattle.bodies.specs.declared.GateHead.{GateHead}
-use Rattle.bodies.specs.declared.GateHead.TheVariants.{Sum, Scale, Product, Piece, Flag, Shift, SignedShift, Xor}
+use Rattle.plan.specs.Gates.{GateHead}
+use Rattle.plan.specs.declared.gates.Gate.TheVariants.{Sum, Scale, Product, Piece, Flag, Shift, SignedShift, Xor}
 use Rattle.bodies.specs.Allowed.{head, key_allowed}
 use Rattle.boxview.specs.Reading.{WholeKey, WholeGate}
 
@@ -102,8 +102,8 @@ tag : GateHead → ℕ
 tag (Sum a b) = 1
 tag (Scale a c d) = 2
 tag (Product a b) = 3
-tag (Piece a p q) = 4
-tag (Flag a p q) = 5
+tag (Piece a p q c) = 4
+tag (Flag a p q t) = 5
 tag (Shift a s) = 6
 tag (SignedShift a s) = 7
 tag (Xor a b) = 8
@@ -112,8 +112,8 @@ one : GateHead → ℕ
 one (Sum a b) = a
 one (Scale a c d) = a
 one (Product a b) = a
-one (Piece a p q) = a
-one (Flag a p q) = a
+one (Piece a p q c) = a
+one (Flag a p q t) = a
 one (Shift a s) = a
 one (SignedShift a s) = a
 one (Xor a b) = a
@@ -122,8 +122,8 @@ two : GateHead → ℕ
 two (Sum a b) = b
 two (Scale a c d) = c
 two (Product a b) = b
-two (Piece a p q) = p
-two (Flag a p q) = p
+two (Piece a p q c) = p
+two (Flag a p q t) = p
 two (Shift a s) = s
 two (SignedShift a s) = s
 two (Xor a b) = b
@@ -132,8 +132,8 @@ three : GateHead → ℕ
 three (Sum a b) = 0
 three (Scale a c d) = d
 three (Product a b) = 0
-three (Piece a p q) = q
-three (Flag a p q) = q
+three (Piece a p q c) = q
+three (Flag a p q t) = q
 three (Shift a s) = 0
 three (SignedShift a s) = 0
 three (Xor a b) = 0
