@@ -8,8 +8,8 @@ use Rattle.joining.specs.Joining.{AllWide}
 use Rattle.key.specs.declared.BoxNumber.{BoxNumber}
 use Rattle.key.specs.declared.BoxNumber.TheVariants.{Zero, One}
 use Rattle.key.specs.Rows.{is_one}
-use Rattle.plan.specs.declared.GateBody.{GateBody}
-use Rattle.plan.specs.declared.GateBody.TheVariants as plan
+use Rattle.plan.specs.Gates.{GateBody}
+use Rattle.plan.specs.declared.gates.Gate.TheVariants as plan
 use Rattle.plan.specs.Plans.{Planned, wires, is_input, row_at, no_row, gives_flag, is_keyed, reads}
 use Rattle.plan.specs.Questions.{plan_asks}
 use Rattle.plan.proofs.Accepted.{Accepted, accepted, owner_small}
@@ -18,7 +18,7 @@ use Rattle.layout.specs.Wires.{Gate, Wire, input, gate, wire_bytes, parameter_by
 use Rattle.layout.specs.Books.{wire_count}
 use Rattle.bodies.specs.declared.WireBody.{WireBody}
 use Rattle.bodies.specs.declared.WireBody.TheVariants as body
-use Rattle.bodies.specs.declared.GateHead.{GateHead}
+use Rattle.plan.specs.Gates.{GateHead}
 use Rattle.bodies.specs.Heads as heads
 use Rattle.bodies.specs.Heads.{parameters_long}
 use Rattle.bodies.specs.Bodies as bodies

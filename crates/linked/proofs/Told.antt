@@ -11,8 +11,8 @@ use Rattle.layout.specs.Wires as wire
 use Rattle.layout.specs.Wires.{Gate, gate_key_bytes, interval_bytes, shift_bytes}
 use Rattle.keyform.proofs.Lengths.{key_long}
 use Rattle.keyform.proofs.Told.{same_front, same_back, seed_told, key_told, alike_mean}
-use Rattle.bodies.specs.declared.GateHead.{GateHead}
-use Rattle.bodies.specs.declared.GateHead.TheVariants.{Sum, Scale, Product, Piece, Flag, Shift, SignedShift, Xor}
+use Rattle.plan.specs.Gates.{GateHead}
+use Rattle.plan.specs.declared.gates.Gate.TheVariants.{Sum, Scale, Product, Piece, Flag, Shift, SignedShift, Xor}
 use Rattle.bodies.specs.Allowed.{head, key_allowed}
 use Rattle.boxview.specs.Reading.{WholeKey, WholeGate}
 

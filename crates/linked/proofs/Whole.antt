@@ -10,8 +10,8 @@ use Rattle.evaluation.specs.Evaluation.{side_of, bit_at}
 use Rattle.dealing.specs.declared.Descent.{Descent}
 use Rattle.dealing.specs.Dealing.{dealt_rows, next_at, start}
 use Rattle.joining.specs.Joining.{AllWide}
-use Rattle.plan.specs.declared.GateBody.{GateBody}
-use Rattle.plan.specs.declared.GateBody.TheVariants.{Sum, Scale, Product, Piece, Flag, Shift, SignedShift, Xor}
+use Rattle.plan.specs.Gates.{GateBody}
+use Rattle.plan.specs.declared.gates.Gate.TheVariants.{Sum, Scale, Product, Piece, Flag, Shift, SignedShift, Xor}
 use Rattle.group.specs.Flags.{flags}
 use Rattle.interval.specs.Interval.{threshold}
 use Rattle.shares.specs.Words.{words, word, quads, flag_word}
@@ -58,9 +58,9 @@ gate_whole x wide n one ms w (Scale a c d) = tt
 gate_whole x wide n one ms w (Product a b) = tt
 gate_whole x wide n one ms w (Piece a p q c) =
     let r : ℕ = get_or ms a 0 in
-    key_whole x wide quads n one n (threshold (2 ^ n) r) (payload_of r c) (piece_draws w).root0 (piece_draws w).root1 refl refl
+    key_whole x wide quads n one n (threshold (2 ^ n) r) (payload_of r c) (piece_draws w).roots.zero (piece_draws w).roots.one refl refl
 gate_whole x wide n one ms w (Flag a p q t) =
-    key_whole x wide flags n one n (threshold (2 ^ n) (get_or ms a 0)) (flag_word t) (flag_draws w).root0 (flag_draws w).root1 refl refl
+    key_whole x wide flags n one n (threshold (2 ^ n) (get_or ms a 0)) (flag_word t) (flag_draws w).roots.zero (flag_draws w).roots.one refl refl
 gate_whole x wide n one ms w (Shift a s) = shift_whole x wide n one s (get_or ms a 0) w
 gate_whole x wide n one ms w (SignedShift a s) = shift_whole x wide n one s (get_or ms a 0) w
 gate_whole x wide n one ms w (Xor a b) = tt

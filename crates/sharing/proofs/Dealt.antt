@@ -24,8 +24,8 @@ use Rattle.gates.specs.Shift.{low_root0, low_root1, high_root0, high_root1}
 use Rattle.gates.proofs.Meeting.{dealt_keys_join}
 use Rattle.layout.specs.Bytes.{front}
 use Rattle.runs.specs.Plans.{Wiring, Deal, Dealt, AllWithin, hide_all}
-use Rattle.plan.specs.declared.GateBody.{GateBody}
-use Rattle.plan.specs.declared.GateBody.TheVariants.{Sum, Scale, Product, Piece, Flag, Shift, SignedShift, Xor}
+use Rattle.plan.specs.Gates.{GateBody}
+use Rattle.plan.specs.declared.gates.Gate.TheVariants.{Sum, Scale, Product, Piece, Flag, Shift, SignedShift, Xor}
 use Rattle.plan.specs.Plans.{Planned, wires, is_input, is_flag, row_at, gives_flag, is_keyed, reads, words_of, words_before}
 use Rattle.plan.specs.Questions.{lower_number, lower_flag, reads_fit, fields_fit, interval_fits, below}
 use Rattle.plan.specs.Meaning.{plain_gate}
@@ -116,9 +116,9 @@ module _ (d x y : Expansion) (wide : AllWide d) (ex : d ≡ x) (ey : d ≡ y)
       let r : ℕ = get_or (masks p words) i 0 in (
         piece_is_plain p.width (masked N r v) r l h (get_or c 0 0) (get_or c 1 0) (get_or c 2 0) (get_or c 3 0) (get_or w 0 0 % N) (get_or w 13 0) a.few_bits
             (mod-lt _ (pow_pos p.width)) (mask_low i ei) lh hh (piece_draws w).payload1 (piece_draws w).extra1
-            (dealt_answer quads d x p.width (threshold N r) (payload_of r c) (piece_draws w).root0 (piece_draws w).root1 false (piece_draws w).root0)
-            (dealt_answer quads d y p.width (threshold N r) (payload_of r c) (piece_draws w).root0 (piece_draws w).root1 true (piece_draws w).root1)
-            (dealt_keys_join quads d x y p.width (threshold N r) (payload_of r c) (piece_draws w).root0 (piece_draws w).root1 wide ex ey (mod-lt _ (pow_pos p.width)))
+            (dealt_answer quads d x p.width (threshold N r) (payload_of r c) (piece_draws w).roots.zero (piece_draws w).roots.one false (piece_draws w).roots.zero)
+            (dealt_answer quads d y p.width (threshold N r) (payload_of r c) (piece_draws w).roots.zero (piece_draws w).roots.one true (piece_draws w).roots.one)
+            (dealt_keys_join quads d x y p.width (threshold N r) (payload_of r c) (piece_draws w).roots.zero (piece_draws w).roots.one wide ex ey (mod-lt _ (pow_pos p.width)))
             ∙ ap (λ (m : ℕ). (plain_piece N l h (get_or c 0 0) (get_or c 1 0) (get_or c 2 0) (get_or c 3 0) m + get_or w 0 0 % N) % N) ((held_is_plain N r (mask_low i ei)).0 v hv),
         elim [ Zero ↦ lt-ltb _ _ (mod-lt _ (pow_pos p.width)) | One ↦ lt-ltb _ _ (mod-lt _ (pow_pos p.width)) ],
       )
@@ -140,18 +140,18 @@ module _ (d x y : Expansion) (wide : AllWide d) (ex : d ≡ x) (ey : d ≡ y)
       let N : ℕ = 2 ^ p.width in
       let r : ℕ = get_or (masks p words) i 0 in
       let key : Expansion → Bool → Seed → ℕ → Residue (2 ^ 32)
-      = λ z one root. dealt_answer flags d z p.width (threshold N r) (flag_word t) (flag_draws w).root0 (flag_draws w).root1 one root in
+      = λ z one root. dealt_answer flags d z p.width (threshold N r) (flag_word t) (flag_draws w).roots.zero (flag_draws w).roots.one one root in
       let said : Bool → (ℕ → Residue (2 ^ 32)) → Residue (2 ^ 32)
       = λ one k. answer flags N (masked N r v) l h (part_of_element flags one (flag_word t) (flag_draws w).payload1)
       (part_of_element flags one (extra flags N r l h (flag_word t)) (flag_draws w).extra1) k in
       let out : get_or w 0 0 % 2 ^ 32 < 2 ^ 32 = mod-lt (get_or w 0 0) (pow_pos 32) in (
         flag_is_plain N (masked N r v) r l h t (get_or w 0 0 % 2 ^ 32) (get_or w 7 0)
-            (mod-lt _ (pow_pos p.width)) (mask_low i ei) lh hh ht (flag_draws w).payload1 (flag_draws w).extra1 (key x false (flag_draws w).root0) (key y true (flag_draws w).root1)
-            (dealt_keys_join flags d x y p.width (threshold N r) (flag_word t) (flag_draws w).root0 (flag_draws w).root1 wide ex ey (mod-lt _ (pow_pos p.width)))
+            (mod-lt _ (pow_pos p.width)) (mask_low i ei) lh hh ht (flag_draws w).payload1 (flag_draws w).extra1 (key x false (flag_draws w).roots.zero) (key y true (flag_draws w).roots.one)
+            (dealt_keys_join flags d x y p.width (threshold N r) (flag_word t) (flag_draws w).roots.zero (flag_draws w).roots.one wide ex ey (mod-lt _ (pow_pos p.width)))
             ∙ ap (λ (m : ℕ). bit_xor (plain_flag l h t m) (get_or w 0 0 % 2 ^ 32)) ((held_is_plain N r (mask_low i ei)).0 v hv),
         elim [
-          | Zero ↦ flag_part_low (said false (key x false (flag_draws w).root0)) false (get_or w 0 0 % 2 ^ 32) (get_or w 7 0) out
-          | One ↦ flag_part_low (said true (key y true (flag_draws w).root1)) true (get_or w 0 0 % 2 ^ 32) (get_or w 7 0) out
+          | Zero ↦ flag_part_low (said false (key x false (flag_draws w).roots.zero)) false (get_or w 0 0 % 2 ^ 32) (get_or w 7 0) out
+          | One ↦ flag_part_low (said true (key y true (flag_draws w).roots.one)) true (get_or w 0 0 % 2 ^ 32) (get_or w 7 0) out
         ],
       )
 

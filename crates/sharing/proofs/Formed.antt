@@ -7,8 +7,8 @@ use Rattle.std.proofs.lemmas.Bool.{and_parts, ltb-true, ltb-false, leb-true, lt-
 use Rattle.interval.specs.Interval.{inside}
 use Rattle.shares.specs.Plain.{remainder, signed}
 use Rattle.runs.specs.Plans.{Wiring, Formed, AllBelow, AllWithin, is_gate}
-use Rattle.plan.specs.declared.GateBody.{GateBody}
-use Rattle.plan.specs.declared.GateBody.TheVariants.{Sum, Scale, Product, Piece, Flag, Shift, SignedShift, Xor}
+use Rattle.plan.specs.Gates.{GateBody}
+use Rattle.plan.specs.declared.gates.Gate.TheVariants.{Sum, Scale, Product, Piece, Flag, Shift, SignedShift, Xor}
 use Rattle.plan.specs.Plans.{Planned, wires, is_input, is_flag, row_at, no_row, gives_flag, reads}
 use Rattle.plan.specs.Questions.{lower_number, lower_flag, reads_fit, fields_fit, interval_fits, below}
 use Rattle.plan.specs.Meaning.{plain_gate}
