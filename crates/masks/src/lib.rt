@@ -2,7 +2,7 @@
 #![tactic(auto)]
 
 ghost use Rattle.std.specs.Prelude.{◌≡◌, ◌+◌, ◌≤◌, length, slice_index};
-ghost use Rattle.plan.specs.Plans.{stated, words_at};
+ghost use Rattle.plan.specs.Plans.{stated};
 ghost use Rattle.layout.specs.Bytes.{front};
 ghost use Rattle.masks.specs.Masks.{gate_mask, wire_mask, masks};
 
@@ -56,14 +56,6 @@ fn wire_mask(width: Width, masks: &[u32; 48], word: u64, wire: PlanWire) -> u32
         PlanWire::Input { .. } => width.reduce(word),
         PlanWire::Gate(row) => gate_mask(width, masks, word, row.body),
     }
-}
-
-// How many random words wire k takes.
-pub fn words_at(plan: Plan, k: usize) -> usize
-    ensures count { result ≡ words_at (stated plan.entry) k }
-    ensures few { result ≤ 14 }
-{
-    plan.get(k).map_or(0, |wire| wire.words())
 }
 
 // Stays: a plan and a width, since a CheckedPlan would ask for more than the masks need.
