@@ -60,6 +60,7 @@ fn print_dealt(rt: &HostRuntime, kind: u8, book: &[u8], whole: bool) -> Result<(
 }
 
 // One box's book of the plan that was read.
+// Stays: the box is a byte, since `deal` is asked about any.
 fn deal_one<X: Expander>(
     expander: &X,
     draft: &Draft,
