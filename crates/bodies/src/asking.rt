@@ -77,6 +77,7 @@ pub fn gate_fits(width: u8, body: &[u8]) -> bool
 }
 
 // Is an input's body of its layout in the book of one box?
+// Stays: the box is the byte that the book's header holds, which may be any.
 pub fn input_fits(number: u8, width: u8, body: &[u8]) -> bool
     ensures { result ≡ input_fits number width body.now }
 {

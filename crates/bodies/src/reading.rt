@@ -125,6 +125,7 @@ pub fn gate_in(body: &[u8]) -> Option<WireBody>
 }
 
 // What an input's body says in the book of one box.
+// Stays: the box is the byte that the book's header holds, which may be any.
 pub fn input_in(number: u8, body: &[u8]) -> WireBody
     ensures { result ≡ input_in number body.now }
 {

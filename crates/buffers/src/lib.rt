@@ -49,6 +49,7 @@ impl<'a> Writer<'a> {
 }
 
 // The number that four bytes write from a place on.
+// Stays: `chacha` reads its words by the standard's definition, this crate by the book's; neither stands on the other.
 pub fn number_at(bytes: &[u8], at: usize) -> u32
     requires { at + 4 ≤ length bytes.now }
     ensures { result ≡ number_at bytes.now at }

@@ -30,6 +30,7 @@ fn print_mask(rt: &HostRuntime, mask: u32) -> io::Result<()> {
 }
 
 // One box's part of an interval gate's key.
+// Stays: boxes are numbers here and below, since they are printed as such.
 fn print_interval_parts<G: Group + fmt::Display>(
     rt: &HostRuntime,
     number: u8,

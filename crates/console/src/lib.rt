@@ -50,6 +50,7 @@ impl Session {
         key_jobs::answer_at(rt, &order, point)
     }
 
+    // Stays: as `deal`, of a gate; two lines on another field are no plainer as one function.
     fn gate(&mut self, rt: &HostRuntime, order: GateOrder) -> Result<(), Stop>
         ensures key { self.new.key ≡ self.old.key }
         ensures gate { KeptOr order self.old.gate self.new.gate }
@@ -87,6 +88,7 @@ impl Session {
 }
 
 // Carries out every line of the input; whether there was one.
+// Stays: `office` has the same five lines over its own; what they share is the library's fold.
 pub fn run(rt: &HostRuntime) -> io::Result<bool> {
     let mut session = Session::new();
     rt.lines(rt.alloc()).try_fold(false, |_, line| {

@@ -1,5 +1,5 @@
 -- A box's key for an interval, and what it answers.
-use Rattle.std.specs.Prelude.{◌≡◌, ℕ, ◌^◌, ◌<◌, Bool, true, false, cond, List}
+use Rattle.std.specs.Prelude.{◌≡◌, ℕ, ◌+◌, ◌^◌, ◌<◌, Bool, true, false, cond, List, slice_index}
 use Rattle.group.specs.Groups.{OutputGroup}
 use Rattle.expander.specs.Meaning.{Expansion}
 use Rattle.expander.specs.declared.Seed.{Seed}
@@ -16,11 +16,19 @@ use Rattle.interval.specs.Interval.{threshold, extra, answer, KeysJoin}
 use Rattle.shares.specs.Splits.{part_of_element}
 use Rattle.shares.specs.Keyed as keyed
 use Rattle.gatekeys.specs.declared.ranges.Interval.{Interval}
+use Rattle.gatekeys.specs.Random.{root_of}
 use Rattle.gates.specs.declared.interval_key.IntervalKey.{IntervalKey}
 use Rattle.gates.specs.declared.interval_key.IntervalDraws.{IntervalDraws}
 use Rattle.gates.specs.declared.interval_key.IntervalDeal.{IntervalDeal}
 use Rattle.gates.specs.declared.states.Fresh.{Fresh}
 use Rattle.keyform.specs.declared.gate_keys.IntervalParts.{IntervalParts}
+
+-- both roots in four random words from word i on, box 0's first
+abbrev pub roots_at : List ℕ → ℕ → Roots
+roots_at w i = record {
+  zero = root_of (slice_index w i) (slice_index w (i + 1));
+  one = root_of (slice_index w (i + 2)) (slice_index w (i + 3));
+}
 
 -- a comparison key's ends, a key's parts, and a key, by what their elements mean
 abbrev pub ends_mean : {G M : Type 0} → (G → M) → KeyEnds G → KeyEnds M

@@ -24,7 +24,7 @@ use Rattle.gatekeys.specs.declared.keyed.Sign.{Sign}
 use Rattle.gatekeys.specs.declared.keyed.Sign.TheVariants.{Unsigned, Signed}
 use Rattle.gates.specs.declared.states.Fresh.{Fresh}
 use Rattle.gates.specs.declared.shift.ShiftKey.{ShiftKey}
-use Rattle.gates.specs.Interval.{ends_mean, dealt_ends}
+use Rattle.gates.specs.Interval.{roots_at, ends_mean, dealt_ends}
 
 abbrev pub shift_key_mean : {G M : Type 0} → (G → M) → ShiftKey G → ShiftKey M
 shift_key_mean mean k = record {
@@ -54,10 +54,10 @@ abbrev pub high_root1 : List ℕ → Seed
 high_root1 w = root_of (slice_index w 7) (slice_index w 8)
 
 abbrev pub low_roots : List ℕ → Roots
-low_roots w = record { zero = low_root0 w; one = low_root1 w }
+low_roots w = roots_at w 1
 
 abbrev pub high_roots : List ℕ → Roots
-high_roots w = record { zero = high_root0 w; one = high_root1 w }
+high_roots w = roots_at w 5
 
 -- the rows of the low key, n of them, for the mask r; and those of the high key
 abbrev pub low_rows_of : Expansion → Shift → ℕ → List ℕ → ℕ → List (Row group.Word)

@@ -6,12 +6,12 @@ ghost use Rattle.shares.proofs.Keyed.{flag_is_plain};
 ghost use Rattle.gatemath.specs.Elements.{flag_mean};
 ghost use Rattle.gates.specs.Flag.{flag_deal, flag_out, flag_draws, flag_numbers, flag_held};
 
-use crate::interval_key::{IntervalDeal, IntervalDraws};
+use crate::interval_key::{IntervalDeal, IntervalDraws, roots_at};
 use crate::intervals::IntervalGate;
-use gatekeys::{FlagGate, root_from};
+use gatekeys::FlagGate;
 use gatemath::{flag_share, flags_part};
 use group::{Flags, low_half};
-use key::{BoxNumber, Roots};
+use key::BoxNumber;
 use masking::{Masked, Share, Width};
 
 impl IntervalGate<Flags> for FlagGate {
@@ -28,16 +28,13 @@ impl IntervalGate<Flags> for FlagGate {
     ghost held = { λ gate m. flag_held gate.interval gate.mask gate.pattern gate.words m };
 
     fn deal(&self) -> IntervalDeal<Flags> {
-        let [_, a, b, c, d, payload1, extra1, _] = self.words;
+        let [_, _, _, _, _, payload1, extra1, _] = self.words;
         IntervalDeal {
             interval: self.interval,
             mask: self.mask,
             payload: Flags(self.pattern),
             draws: IntervalDraws {
-                roots: Roots {
-                    zero: root_from(a, b),
-                    one: root_from(c, d),
-                },
+                roots: roots_at(&self.words, 1),
                 payload1: Flags(low_half(payload1)),
                 extra1: Flags(low_half(extra1)),
             },

@@ -1,14 +1,14 @@
 // The interval rule, once for every output group.
-ghost use Rattle.std.specs.Prelude.{◌≡◌, map, length};
+ghost use Rattle.std.specs.Prelude.{◌≡◌, ◌+◌, ◌≤◌, map, length};
 ghost use Rattle.key.specs.Rows.{row_mean};
 ghost use Rattle.dealing.specs.Dealing.{dealt_rows, start};
-ghost use Rattle.gates.specs.Interval.{ends_mean, dealt_ends, interval_key_mean, key_at, interval_answer, key_of, rows_of};
+ghost use Rattle.gates.specs.Interval.{roots_at, ends_mean, dealt_ends, interval_key_mean, key_at, interval_answer, key_of, rows_of};
 
 use crate::states::Fresh;
 use dealing::deal;
 use evaluation::answer;
 use expander::Expander;
-use gatekeys::Interval;
+use gatekeys::{Interval, root_from};
 use gatemath::{after_end, extra_for, once_less, part_of, point_for, threshold_for};
 use group::{Group, difference};
 use key::{BoxNumber, KeyEnds, Roots, Row, Rows};
@@ -67,6 +67,17 @@ pub(crate) fn deal_ends<X: Expander, G: Group>(
     KeyEnds {
         root: roots.of(number),
         last,
+    }
+}
+
+// Both roots in the four random words from word i on, box 0's first.
+pub(crate) fn roots_at(words: &[u64], i: usize) -> Roots
+    requires { i + 4 ≤ length words.now }
+    ensures { result ≡ roots_at words.now i }
+{
+    Roots {
+        zero: root_from(words[i], words[i + 1]),
+        one: root_from(words[i + 2], words[i + 3]),
     }
 }
 

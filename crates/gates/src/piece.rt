@@ -6,12 +6,12 @@ ghost use Rattle.shares.proofs.Keyed.{piece_is_plain};
 ghost use Rattle.gatemath.specs.Elements.{quad_mean};
 ghost use Rattle.gates.specs.Piece.{piece_deal, piece_out, piece_draws, piece_numbers, piece_held};
 
-use crate::interval_key::{IntervalDeal, IntervalDraws};
+use crate::interval_key::{IntervalDeal, IntervalDraws, roots_at};
 use crate::intervals::IntervalGate;
-use gatekeys::{PieceGate, root_from};
+use gatekeys::PieceGate;
 use gatemath::{number_part, payload_for, piece_share};
 use group::Quad;
-use key::{BoxNumber, Roots};
+use key::BoxNumber;
 use masking::{Masked, Share, Width};
 
 impl IntervalGate<Quad> for PieceGate {
@@ -28,16 +28,13 @@ impl IntervalGate<Quad> for PieceGate {
     ghost held = { λ gate m. piece_held gate.interval gate.mask gate.coefficients gate.words m };
 
     fn deal(&self) -> IntervalDeal<Quad> {
-        let [_, a, b, c, d, p0, p1, p2, p3, e0, e1, e2, e3, _] = self.words;
+        let [_, _, _, _, _, p0, p1, p2, p3, e0, e1, e2, e3, _] = self.words;
         IntervalDeal {
             interval: self.interval,
             mask: self.mask,
             payload: payload_for(self.mask, &self.coefficients),
             draws: IntervalDraws {
-                roots: Roots {
-                    zero: root_from(a, b),
-                    one: root_from(c, d),
-                },
+                roots: roots_at(&self.words, 1),
                 payload1: Quad::from([p0, p1, p2, p3]),
                 extra1: Quad::from([e0, e1, e2, e3]),
             },

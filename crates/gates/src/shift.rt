@@ -11,19 +11,19 @@ ghost use Rattle.gatemath.specs.Signs.{asked_at, share_by};
 ghost use Rattle.gates.specs.Questions.{numbers_of, held_of};
 ghost use Rattle.gates.specs.ShiftQuestions.{shift_row_asks, shift_asks};
 ghost use Rattle.gates.specs.Shift.{fresh_shift_mean, dealt_shift_key, low_rows_of, high_rows_of};
-ghost use Rattle.gates.specs.Shift.{low_roots, high_roots, low_at, high_at, share_at_by, numbers_by, held_by};
+ghost use Rattle.gates.specs.Shift.{low_at, high_at, share_at_by, numbers_by, held_by};
 
-use crate::interval_key::deal_ends;
+use crate::interval_key::{deal_ends, roots_at};
 use crate::questions::{ask_shift, ask_shift_rows};
 use crate::states::{Fresh, GateAnswers, Half, exchange};
 use evaluation::answer;
 use expander::Expander;
-use gatekeys::{Shift, ShiftGate, Sign, root_from};
+use gatekeys::{Shift, ShiftGate, Sign};
 use gatemath::{
     low_bits, low_key_payload, number_part, point_at, rest_for, shift_share, step_count,
 };
 use group::{Group, Word};
-use key::{BoxNumber, Roots, Rows};
+use key::{BoxNumber, Rows};
 use keyform::ShiftParts;
 use masking::{Masked, Share};
 use refusal::Refusal;
@@ -43,25 +43,6 @@ pub struct ShiftRows<'a> {
     pub high: Rows<'a, Word>,
 }
 
-// Words 1 to 4 are the low key's roots, and words 5 to 8 the high key's.
-fn low_roots(words: &[u64; 10]) -> Roots
-    ensures { result ≡ low_roots words.now }
-{
-    Roots {
-        zero: root_from(words[1], words[2]),
-        one: root_from(words[3], words[4]),
-    }
-}
-
-fn high_roots(words: &[u64; 10]) -> Roots
-    ensures { result ≡ high_roots words.now }
-{
-    Roots {
-        zero: root_from(words[5], words[6]),
-        one: root_from(words[7], words[8]),
-    }
-}
-
 // A box's part of the rest: word 0 is the output mask, and word 9 box 1's part.
 fn rest_part(number: BoxNumber, gate: &ShiftGate) -> u32
     ensures { let N = size gate.now.shift.width in result ≡ part_of_number (is_one number) N
@@ -72,7 +53,8 @@ fn rest_part(number: BoxNumber, gate: &ShiftGate) -> u32
     number_part(width, number, rest, gate.words[9])
 }
 
-// One box's key of a shift: the rows into the two tables, the rest as the fresh key.
+// One box's key of a shift: the rows into the two tables, the rest as the fresh key. The low key's roots stand in the random
+// words from word 1 on, the high key's from word 5 on.
 fn shift_key<X: Expander>(
     expander: &X,
     number: BoxNumber,
@@ -101,7 +83,7 @@ fn shift_key<X: Expander>(
                 number,
                 below,
                 low_key_payload(),
-                low_roots(&gate.words),
+                roots_at(&gate.words, 1),
                 &mut rows.low,
             ),
             high: deal_ends(
@@ -109,7 +91,7 @@ fn shift_key<X: Expander>(
                 number,
                 gate.mask,
                 steps,
-                high_roots(&gate.words),
+                roots_at(&gate.words, 5),
                 &mut rows.high,
             ),
             rest: rest_part(number, gate),

@@ -2,7 +2,7 @@
 #![tactic(auto)]
 
 ghost use Rattle.std.specs.Prelude.{◌≡◌, ◌+◌, ◌≤◌, length, slice_index};
-ghost use Rattle.plan.specs.Plans.{stated, words_at};
+ghost use Rattle.plan.specs.Plans.{stated};
 ghost use Rattle.layout.specs.Bytes.{front};
 ghost use Rattle.masks.specs.Masks.{gate_mask, wire_mask, masks};
 
@@ -58,14 +58,6 @@ fn wire_mask(width: Width, masks: &[u32; 48], word: u64, wire: PlanWire) -> u32
     }
 }
 
-// How many random words wire k takes.
-pub fn words_at(plan: Plan, k: usize) -> usize
-    ensures count { result ≡ words_at (stated plan.entry) k }
-    ensures few { result ≤ 14 }
-{
-    plan.get(k).map_or(0, |wire| wire.words())
-}
-
 // Stays: a plan and a width, since a CheckedPlan would ask for more than the masks need.
 // The masks of all wires. Each wire takes its random words from the front of what the wires below it leave.
 pub fn masks_of(width: Width, plan: Plan, words: &[u64]) -> [u32; 48]
@@ -74,6 +66,7 @@ pub fn masks_of(width: Width, plan: Plan, words: &[u64]) -> [u32; 48]
 {
     let mut masks = [0; 48];
     let mut left = words;
+    // Stays: each mask is made from those below it in the same table, which no iterator can hold meanwhile.
     for k in 0..plan.wires() {
         let wire = plan.wire(k);
         masks[k] = wire_mask(width, &masks, word_in(left, 0), wire);

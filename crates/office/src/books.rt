@@ -26,6 +26,7 @@ fn print_book(rt: &HostRuntime, book: &[u8], whole: bool) -> Result<(), Stop> {
     println!(rt;
         "book box {number} bytes {long} edition 1 kind {kind} width {width} deal {deal} inputs {inputs} gates {gates}"
     )?;
+    // Stays: k is the wire's number, which is printed and asked of the book.
     for k in 0..inputs as usize + gates as usize {
         let body = body_in(book, k);
         let offset = number_in(book, 16 + 8 * k);
@@ -59,6 +60,7 @@ fn print_dealt(rt: &HostRuntime, kind: u8, book: &[u8], whole: bool) -> Result<(
 }
 
 // One box's book of the plan that was read.
+// Stays: the box is a byte, since `deal` is asked about any.
 fn deal_one<X: Expander>(
     expander: &X,
     draft: &Draft,

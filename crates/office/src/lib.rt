@@ -87,6 +87,7 @@ impl Office {
 }
 
 // Carries out every line of the input; whether there was one.
+// Stays: `console` has the same five lines over its own; what they share is the library's fold.
 pub fn run(rt: &HostRuntime) -> io::Result<bool> {
     let mut office = Office::new(rt);
     rt.lines(rt.alloc()).try_fold(false, |_, line| {

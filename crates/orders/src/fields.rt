@@ -1,14 +1,14 @@
 // Words of a line as what they must be.
-ghost use Rattle.std.specs.Prelude.{◌≡◌};
+ghost use Rattle.std.specs.Prelude.{◌≡◌, [], slice_index_or};
 ghost use Rattle.std.specs.Fn.{FnOnceReturnsAt};
 ghost use Rattle.orders.specs.Grammar.{kind_of, group_of, parts, payload_of, placed, field, ended};
 ghost use Rattle.orders.specs.Text.{words, nth, pieces, number_of};
-ghost use Rattle.std.specs.Prelude.{[], slice_index_or};
 
 use crate::number::Number;
 use crate::text::{number_of, piece_at, pieces_of, word_at};
 use crate::types::{Fault, Group, Kind, Payload, Wrong};
 
+// Stays: functions that read a word, and no `TryFrom`, since `field` is handed them by name.
 pub fn kind_of(word: &[u8]) -> Result<Kind, Wrong>
     ensures { result ≡ kind_of word.now }
 {
@@ -45,6 +45,7 @@ fn placed<T: Drop>(word: &[u8], n: usize, read: Result<T, Wrong>) -> Result<T, F
 }
 
 // Word number `n` as what `read` reads of it, or what is wrong with that word.
+// Stays: a line and the number of a word; a struct of both would be made anew at every word.
 pub fn field<T: Drop, F: FnOnce(&[u8]) -> Result<T, Wrong>>(
     line: &[u8],
     n: usize,

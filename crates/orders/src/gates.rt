@@ -33,7 +33,7 @@ fn numbers_of<N: Number + Copy, const K: usize>(word: &[u8], wrong: Wrong) -> Re
         return Err(wrong);
     }
     let mut numbers = [N::hold(0); K];
-    // Stays: `array::from_fn` cannot stop at a number that is wrong, and a list needs memory, which can run out.
+    // Stays: `array::try_from_fn` was tried; it asks for a bound on the size of an array of any number type.
     for i in 0..K {
         numbers[i] = number_part(word, i)?;
     }
@@ -75,6 +75,9 @@ fn piece_body(line: &[u8]) -> Result<GateBody, Fault>
         },
     )
 }
+
+// Stays: each gate lists the fields of its own; what two of them share is a line each, so that one function for both would be no
+// plainer.
 
 // MASK LOW HIGH PATTERN WORDS
 fn flag_body(line: &[u8]) -> Result<GateBody, Fault>

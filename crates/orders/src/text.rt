@@ -1,5 +1,5 @@
 // Lines cut into words, and words read as numbers and seeds.
-ghost use Rattle.std.specs.Prelude.{◌≡◌, ◌+◌, ◌*◌, ◌^◌, ◌<◌, ◌≤◌, min, true, [], length, IfOk, slice_index_or};
+ghost use Rattle.std.specs.Prelude.{◌≡◌, ◌^◌, ◌<◌, ◌≤◌, min, true, [], length, IfOk, slice_index_or};
 ghost use Rattle.orders.specs.Text.{pieces, words, nth, digits, numeral, value, decimal_of, number_of};
 ghost use Rattle.orders.specs.Text.{hexes, hex_of, or_zero, byte_of, hex_bytes, HexBytes, seed_from};
 
@@ -53,6 +53,7 @@ fn value_of(word: &[u8], top: u128) -> u128
     requires { (digits word.now ≡ true) × (top ≤ 2 ^ 64) }
     ensures { result ≡ min (value word.now) top }
 {
+    // Stays: a fold was tried; its proof did not close, since the closure does not know that each byte is a digit.
     let mut sum: u128 = 0;
     for b in word {
         sum = (sum * 10 + (*b - b'0') as u128).min(top);
@@ -88,6 +89,7 @@ pub fn number_of<N: Number>(word: &[u8]) -> Result<N, Wrong>
 pub fn hex_digit(b: u8) -> Result<u8, Wrong>
     ensures { result ≡ hex_of b }
 {
+    // Stays: a closure would not know that the digit fits a byte.
     match (b as char).to_digit(16) {
         Some(digit) => Ok(digit as u8),
         None => Err(Wrong::NotHex),

@@ -37,10 +37,7 @@ impl<'a> CheckedPlan<'a> {
     pub fn width(self) -> Width
         ensures { result.bits ≡ self.entry.plan.width }
     {
-        match Width::new(self.plan.width) {
-            Ok(width) => width,
-            Err(_) => unreachable(),
-        }
+        Width::new(self.plan.width).unwrap()
     }
 
     // How many wires there are.

@@ -98,6 +98,8 @@ pub type GateBody = Gate<[u32; 4], u32>;
 pub type GateHead = Gate<(), ()>;
 
 // Is a number below N?
+// Stays: `comparison` asks the same of a key's numbers; neither crate stands on the other, and a crate for one line would be
+// no plainer.
 pub fn below(width: u8, number: u32) -> bool
     ensures { result ≡ below width number }
 {

@@ -4,6 +4,7 @@
 use office::run;
 use std::io;
 
+// Stays: `vectors` has the same lines, since a program is a `main` of its own.
 fn main(rt: HostRuntime) -> io::Result<()> {
     run(&rt)?;
     Ok(())

@@ -24,6 +24,7 @@ pub fn number_in(word: &[u8], k: usize, most: u64) -> u64
 }
 
 // Whether all are hex digits.
+// Stays: a loop that ends at the first wrong digit by `?`; `try_for_each` would have to drop each digit in a closure.
 fn digits_read(word: &[u8]) -> Result<(), Wrong>
     ensures { result ≡ all_read hex_of word.now }
 {

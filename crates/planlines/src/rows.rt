@@ -38,6 +38,8 @@ fn piece_body(line: &[u8]) -> Result<GateBody, Fault>
     ended(line, 7, GateBody::Piece { a, p, q, c })
 }
 
+// Stays: each gate lists the fields of its own, so that one function for two of them would be no plainer.
+
 // A P Q PATTERN
 fn flag_body(line: &[u8]) -> Result<GateBody, Fault>
     ensures { result ≡ body_of Flag (words line.now) }

@@ -6,7 +6,7 @@ use aes::{Aes128, RoundKeys};
 use chacha::{ChaCha20, block, quarter_round, quarter_round_at};
 use expander::{Expander, Seed};
 use hextext::Hex;
-use std::io;
+use std::{fmt, io};
 
 // The bytes 0, 1, 2 and so on.
 const COUNT_16: &[u8; 16] = b"\x00\x01\x02\x03\x04\x05\x06\x07\x08\x09\x0a\x0b\x0c\x0d\x0e\x0f";
@@ -14,18 +14,19 @@ const COUNT_16: &[u8; 16] = b"\x00\x01\x02\x03\x04\x05\x06\x07\x08\x09\x0a\x0b\x
 const COUNT_32: &[u8; 32] =
     b"\x00\x01\x02\x03\x04\x05\x06\x07\x08\x09\x0a\x0b\x0c\x0d\x0e\x0f\x10\x11\x12\x13\x14\x15\x16\x17\x18\x19\x1a\x1b\x1c\x1d\x1e\x1f";
 
-fn line(rt: &HostRuntime, source: &str, name: &str, bytes: &[u8]) -> io::Result<()> {
+fn line<T: fmt::Display + Copy>(
+    rt: &HostRuntime,
+    source: &str,
+    name: T,
+    bytes: &[u8],
+) -> io::Result<()> {
     println!(rt; "{source} {name}: {}", Hex(bytes))
-}
-
-fn numbered(rt: &HostRuntime, name: &str, number: usize, bytes: &[u8]) -> io::Result<()> {
-    println!(rt; "{name} {number}: {}", Hex(bytes))
 }
 
 fn fips197(rt: &HostRuntime) -> io::Result<()> {
     let keys = RoundKeys::new(b"\x2b\x7e\x15\x16\x28\xae\xd2\xa6\xab\xf7\x15\x88\x09\xcf\x4f\x3c");
     for (i, key) in keys.round_keys().iter().enumerate() {
-        numbered(rt, "FIPS 197 A.1 round key", i, key)?;
+        line(rt, "FIPS 197 A.1 round key", i, key)?;
     }
     let output = keys.encrypt(b"\x32\x43\xf6\xa8\x88\x5a\x30\x8d\x31\x31\x98\xa2\xe0\x37\x07\x34");
     line(rt, "FIPS 197", "B output", &output)?;
@@ -37,7 +38,7 @@ fn fips197(rt: &HostRuntime) -> io::Result<()> {
 fn quarter_rounds(rt: &HostRuntime) -> io::Result<()> {
     let (a, b, c, d) = quarter_round(0x11111111, 0x01020304, 0x9b8d6f43, 0x01234567);
     for (i, word) in [a, b, c, d].iter().enumerate() {
-        numbered(rt, "RFC 8439 2.1.1 word", i, &word.to_be_bytes())?;
+        line(rt, "RFC 8439 2.1.1 word", i, &word.to_be_bytes())?;
     }
     let mut state = [
         0x879531e0, 0xc5ecf37d, 0x516461b1, 0xc9a62f8a, 0x44c20ef3, 0x3390af7f, 0xd9fc690b,
@@ -46,7 +47,7 @@ fn quarter_rounds(rt: &HostRuntime) -> io::Result<()> {
     ];
     quarter_round_at(&mut state, 2, 7, 8, 13);
     for (i, word) in state.iter().enumerate() {
-        numbered(rt, "RFC 8439 2.2.1 word", i, &word.to_be_bytes())?;
+        line(rt, "RFC 8439 2.2.1 word", i, &word.to_be_bytes())?;
     }
     Ok(())
 }
@@ -85,13 +86,13 @@ fn kind_blocks(rt: &HostRuntime) -> io::Result<()> {
     for j in 0..9u8 {
         let mut number = [0; 16];
         number[15] = j;
-        numbered(rt, "kind 1 block", j as usize, &keys.encrypt(&number))?;
+        line(rt, "kind 1 block", j as usize, &keys.encrypt(&number))?;
     }
     let mut key = [0; 32];
     key[0..16].copy_from_slice(COUNT_16);
     key[16..32].copy_from_slice(COUNT_16);
     for counter in 0..3u32 {
-        numbered(
+        line(
             rt,
             "kind 2 counter",
             counter as usize,

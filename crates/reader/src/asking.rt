@@ -87,6 +87,7 @@ fn asked_book(kind: u8, book: &[u8]) -> Result<(), Refusal>
 
 // The questions 11 to 16 about a book that a box with this kind of expander is given. They pass exactly what the layout
 // allows, and that is at most 54,880 bytes.
+// Stays: a kind is a number, since any type can be an expander of a kind of its own.
 pub fn check_book(kind: u8, book: &[u8]) -> Result<(), Refusal>
     ensures answer { result ≡ answered (book_asks kind book.now) tt }
     ensures exact { Tells kind book.now result }

@@ -14,6 +14,7 @@ use refusal::Refusal;
 
 // Deals the book of box `number`, and asks about it as a box does that has the expander X. Nothing is refused but another
 // kind of expander; the book reads back to what was dealt.
+// Stays: the box is a byte, since `deal` is asked about any.
 pub fn deal_and_check<D: Expander, X: Expander>(
     dealer: &D,
     plan: Plan,

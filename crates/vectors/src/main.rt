@@ -4,6 +4,7 @@
 use console::run;
 use std::io;
 
+// Stays: `plan_vectors` has the same lines, since a program is a `main` of its own.
 fn main(rt: HostRuntime) -> io::Result<()> {
     run(&rt)?;
     Ok(())

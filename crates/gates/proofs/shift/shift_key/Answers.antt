@@ -16,12 +16,12 @@ returns g c =
     let below = c.low_bits-below.ensures in
     let minus = c.low_key_payload.ensures in
     let steps = ap group.word c.step_count.ensures in
-    let low_ends = c.deal_ends.ensures.ends ∙ same_ends x group.words below minus c.low_roots.ensures l b in
-    let high_ends = c.deal_ends-2.ensures.ends ∙ same_ends x group.words r steps c.high_roots.ensures h b in
+    let low_ends = c.deal_ends.ensures.ends ∙ same_ends x group.words below minus c.roots_at.ensures l b in
+    let high_ends = c.deal_ends-2.ensures.ends ∙ same_ends x group.words r steps c.roots_at-2.ensures h b in
     record {
       key = ap (shift_key_mean word_mean) c.new.ensures ∙ same_key low_ends high_ends c.rest_part.ensures;
-      low = c.deal_ends.ensures.rows ∙ same_rows x group.words below minus c.low_roots.ensures l;
-      high = c.deal_ends-2.ensures.rows ∙ same_rows x group.words r steps c.high_roots.ensures h;
+      low = c.deal_ends.ensures.rows ∙ same_rows x group.words below minus c.roots_at.ensures l;
+      high = c.deal_ends-2.ensures.rows ∙ same_rows x group.words r steps c.roots_at-2.ensures h;
       same_low = c.deal_ends.ensures.same;
       same_high = c.deal_ends-2.ensures.same;
     }
