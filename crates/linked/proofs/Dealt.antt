@@ -1,7 +1,7 @@
 -- The book of a deal says of each wire what the plan says, and its keys are those that were dealt.
 use Rattle.std.proofs.Common.{◌≡◌, ℕ, ◌-◌, ◌<◌, ◌≤◌, Bool, true, false, cond, ◌&&◌, eqb, ltb, leb, List, [], ◌++◌, length, get_or, drop, Some, None, Ok, Option, sym, refl, ap, ◌∙◌, subst, ap₂, inl, inr, arith}
 use Rattle.std.proofs.lemmas.List.{get_or_past}
-use Rattle.std.proofs.lemmas.Bool.{and_parts, ltb-true, ltb-false, leb-true, lt-ltb, le-ltb, eq-eqb, ne_eqb, cases_lt, cases_eq, false≢true}
+use Rattle.std.proofs.lemmas.Bool.{ltb-false, lt-ltb, le-ltb, eq-eqb, ne_eqb, cases_lt, cases_eq, false≢true}
 use Rattle.refusal.specs.Questions.{answered}
 use Rattle.expander.specs.Meaning.{Expansion}
 use Rattle.joining.specs.Joining.{AllWide}
@@ -37,6 +37,7 @@ use Rattle.boxview.specs.Reading as view
 use Rattle.boxview.specs.Reading.{no_wire, or_none, wire_of, wiring_in, deal_in, WholeGate, HoldsGate, SharesOf, head_local, owner_of, reads_of, keyed_of, shown_of, flag_of, local_of}
 use Rattle.boxview.specs.Steps.{box_step}
 use Rattle.sharing.specs.Wirings.{own, wiring_of, gate_of, deal_of}
+use Rattle.sharing.proofs.Formed.{gate_place}
 use Rattle.linked.specs.Linked.{BoxLinked, BoxesAreLinked}
 use Rattle.linked.proofs.Alike.{DealAlike, WiringAlike, step_of_deals, step_of_wirings}
 use Rattle.linked.proofs.Told.{gate_told}
@@ -46,44 +47,20 @@ use Rattle.linked.proofs.Whole.{gate_whole}
 module _ (x : Expansion) (n : ℕ) (one : Bool) (ms w : List ℕ) where
   dealt_reads : (b : GateBody) → reads (head (dealt_gate x n one ms w b)) ≡ reads b
   dealt_reads (plan.Sum a b) = refl
-  dealt_reads (plan.Scale a c d) = refl
-  dealt_reads (plan.Product a b) = refl
-  dealt_reads (plan.Piece a p q c) = refl
-  dealt_reads (plan.Flag a p q t) = refl
-  dealt_reads (plan.Shift a s) = refl
-  dealt_reads (plan.SignedShift a s) = refl
-  dealt_reads (plan.Xor a b) = refl
+  dealt_reads b = refl
 
   dealt_keyed : (b : GateBody) → is_keyed (head (dealt_gate x n one ms w b)) ≡ is_keyed b
   dealt_keyed (plan.Sum a b) = refl
-  dealt_keyed (plan.Scale a c d) = refl
-  dealt_keyed (plan.Product a b) = refl
-  dealt_keyed (plan.Piece a p q c) = refl
-  dealt_keyed (plan.Flag a p q t) = refl
-  dealt_keyed (plan.Shift a s) = refl
-  dealt_keyed (plan.SignedShift a s) = refl
-  dealt_keyed (plan.Xor a b) = refl
+  dealt_keyed b = refl
 
   dealt_flag : (b : GateBody) → gives_flag (head (dealt_gate x n one ms w b)) ≡ gives_flag b
   dealt_flag (plan.Sum a b) = refl
-  dealt_flag (plan.Scale a c d) = refl
-  dealt_flag (plan.Product a b) = refl
-  dealt_flag (plan.Piece a p q c) = refl
-  dealt_flag (plan.Flag a p q t) = refl
-  dealt_flag (plan.Shift a s) = refl
-  dealt_flag (plan.SignedShift a s) = refl
-  dealt_flag (plan.Xor a b) = refl
+  dealt_flag b = refl
 
   -- a local gate works alike for both boxes
   dealt_local : (b : GateBody) (hs : List ℕ) → head_local n (head (dealt_gate x n one ms w b)) hs ≡ gate_local n (dealt_gate x n false ms w b) hs
   dealt_local (plan.Sum a b) hs = refl
-  dealt_local (plan.Scale a c d) hs = refl
-  dealt_local (plan.Product a b) hs = refl
-  dealt_local (plan.Piece a p q c) hs = refl
-  dealt_local (plan.Flag a p q t) hs = refl
-  dealt_local (plan.Shift a s) hs = refl
-  dealt_local (plan.SignedShift a s) hs = refl
-  dealt_local (plan.Xor a b) hs = refl
+  dealt_local b hs = refl
 
 given_when : (t : Bool) (m : ℕ) → view.given (when t m) ≡ t
 given_when true m = refl
@@ -92,13 +69,7 @@ given_when false m = refl
 -- the key's bytes in a gate's body
 key_after : (g : Gate) → drop (parameters_long (head g)) (parameter_bytes g ++ gate_key_bytes g) ≡ gate_key_bytes g
 key_after (wire.sum a b) = refl
-key_after (wire.scale a c d) = refl
-key_after (wire.product a b x y z) = refl
-key_after (wire.piece a p q k β e o) = refl
-key_after (wire.flag a p q k β e o) = refl
-key_after (wire.shift a s l h r) = refl
-key_after (wire.signed_shift a s l h r) = refl
-key_after (wire.xor a b) = refl
+key_after g = refl
 
 key_back : (shown : Option ℕ) (g : Gate) → key_in (wire_bytes (gate shown g)) (head g) ≡ gate_key_bytes g
 key_back None g = key_after g
@@ -224,11 +195,8 @@ module _ (d x y : Expansion) (wide : AllWide d) (p : Planned) (number : ℕ) (wo
   local_by k hs true e = absurd (false≢true (sym e))
   local_by k hs false e = dealt_local d p.width (eqb (box_byte b) 1) (masks p words) (gate_words o k) (body_at k) hs
 
-  gate_place : (k : ℕ) → is_gate W k ≡ true → (length p.owners ≤ k) × (k < wires p)
-  gate_place k g = let c = and_parts (leb (length p.owners) k) (ltb k (wires p)) g in (leb-true _ _ c.0, ltb-true _ _ c.1)
-
   no_input : (k : ℕ) → is_gate W k ≡ true → is_input p k ≡ false
-  no_input k g = le-ltb k (length p.owners) (gate_place k g).0
+  no_input k g = le-ltb k (length p.owners) (gate_place p 0 (length words) a k g).0
 
   deals_alike : DealAlike W b (deal_in book (D.share b)) D
   deals_alike = record {
@@ -243,7 +211,7 @@ module _ (d x y : Expansion) (wide : AllWide d) (p : Planned) (number : ℕ) (wo
   held_gate : (k : ℕ) (g : Gate) → HoldsGate book k g → own_gate k ≡ g
   held_gate k g h =
       let place : is_gate W k ≡ true = ap₂ (λ (i c : ℕ). leb i k && ltb k c) (sym (ap (λ z. z.inputs) ret.header)) (sym count_is) ∙ h.place in
-      let range = gate_place k place in
+      let range = gate_place p 0 (length words) a k place in
       let shown : Option ℕ = when (row_at p k).shown (mask_of p words k) in
       let bytes : body_in book k ≡ wire_bytes (gate shown (own_gate k)) = ret.bodies k range.1 ∙ ap (λ t. wire_bytes (wire_by t k)) (no_input k place) in
       let first : ltb k (get_or book 8 0) ≡ false = ap (λ z. ltb k z.inputs) ret.header ∙ no_input k place in

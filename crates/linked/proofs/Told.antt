@@ -1,5 +1,5 @@
 -- A gate's head and the bytes of its key tell the gate.
-use Rattle.std.proofs.Common.{◌≡◌, ℕ, ◌+◌, ◌*◌, ◌^◌, ◌<◌, ◌≤◌, List, [], ◌∷◌, ◌++◌, map, length, sym, refl, ap, ◌∙◌, mod-eq_of_lt, arith, pow_mono}
+use Rattle.std.proofs.Common.{◌≡◌, ℕ, ◌+◌, ◌*◌, ◌^◌, ◌<◌, ◌≤◌, List, [], ◌∷◌, ◌++◌, map, length, get_or, sym, refl, ap, ◌∙◌, mod-eq_of_lt, arith, pow_mono}
 use Rattle.group.specs.Residues.{Residue, residue_path}
 use Rattle.key.specs.declared.Row.{Row}
 use Rattle.key.specs.Rows.{row_mean}
@@ -11,8 +11,8 @@ use Rattle.layout.specs.Wires as wire
 use Rattle.layout.specs.Wires.{Gate, gate_key_bytes, interval_bytes, shift_bytes}
 use Rattle.keyform.proofs.Lengths.{key_long}
 use Rattle.keyform.proofs.Told.{same_front, same_back, seed_told, key_told, alike_mean}
-use Rattle.plan.specs.Gates.{GateHead}
-use Rattle.plan.specs.declared.gates.Gate.TheVariants.{Sum, Scale, Product, Piece, Flag, Shift, SignedShift, Xor}
+use Rattle.plan.specs.Gates.{GateHead, number_of, kind_of, reads}
+use Rattle.plan.specs.declared.gates.Gate.TheVariants.{Scale, Piece, Flag, Shift, SignedShift}
 use Rattle.bodies.specs.Allowed.{head, key_allowed}
 use Rattle.boxview.specs.Reading.{WholeKey, WholeGate}
 
@@ -97,69 +97,30 @@ shift_told l h m k r s el eh w v hr hs t =
       number_told r s hr hs (same_back (L h) (four_bytes r) (L k) (four_bytes s) high rest),
     )
 
--- a head's kind and its numbers
-tag : GateHead → ℕ
-tag (Sum a b) = 1
-tag (Scale a c d) = 2
-tag (Product a b) = 3
-tag (Piece a p q c) = 4
-tag (Flag a p q t) = 5
-tag (Shift a s) = 6
-tag (SignedShift a s) = 7
-tag (Xor a b) = 8
-
+-- the numbers of a head
 one : GateHead → ℕ
-one (Sum a b) = a
-one (Scale a c d) = a
-one (Product a b) = a
-one (Piece a p q c) = a
-one (Flag a p q t) = a
-one (Shift a s) = a
-one (SignedShift a s) = a
-one (Xor a b) = a
+one g = get_or (reads g) 0 0
 
 two : GateHead → ℕ
-two (Sum a b) = b
 two (Scale a c d) = c
-two (Product a b) = b
 two (Piece a p q c) = p
 two (Flag a p q t) = p
 two (Shift a s) = s
 two (SignedShift a s) = s
-two (Xor a b) = b
+two g = get_or (reads g) 1 0
 
 three : GateHead → ℕ
-three (Sum a b) = 0
 three (Scale a c d) = d
-three (Product a b) = 0
 three (Piece a p q c) = q
 three (Flag a p q t) = q
-three (Shift a s) = 0
-three (SignedShift a s) = 0
-three (Xor a b) = 0
+three g = 0
 
 -- gates of one head, with as many rows and the same bytes of their keys, are one gate
 pub gate_told : (n : ℕ) → n ≤ 32 → (g G : Gate) → head g ≡ head G → gate_key_bytes g ≡ gate_key_bytes G → key_allowed n g → key_allowed n G
     → WholeGate g → WholeGate G → g ≡ G
-unfolding tag one two three
+unfolding one two three
 gate_told n le (wire.sum a b) (wire.sum a' b') t m A B W V = λ i. wire.sum (ap one t i) (ap two t i)
-gate_told n le (wire.sum a b) (wire.scale a' c' d') t m A B W V = absurd (let z : ◌≡◌ {A = ℕ} 1 2 = ap tag t in omega arith)
-gate_told n le (wire.sum a b) (wire.product a' b' x' y' z') t m A B W V = absurd (let z : ◌≡◌ {A = ℕ} 1 3 = ap tag t in omega arith)
-gate_told n le (wire.sum a b) (wire.piece a' p' q' k' β' e' o') t m A B W V = absurd (let z : ◌≡◌ {A = ℕ} 1 4 = ap tag t in omega arith)
-gate_told n le (wire.sum a b) (wire.flag a' p' q' k' β' e' o') t m A B W V = absurd (let z : ◌≡◌ {A = ℕ} 1 5 = ap tag t in omega arith)
-gate_told n le (wire.sum a b) (wire.shift a' s' l' h' r') t m A B W V = absurd (let z : ◌≡◌ {A = ℕ} 1 6 = ap tag t in omega arith)
-gate_told n le (wire.sum a b) (wire.signed_shift a' s' l' h' r') t m A B W V = absurd (let z : ◌≡◌ {A = ℕ} 1 7 = ap tag t in omega arith)
-gate_told n le (wire.sum a b) (wire.xor a' b') t m A B W V = absurd (let z : ◌≡◌ {A = ℕ} 1 8 = ap tag t in omega arith)
-gate_told n le (wire.scale a c d) (wire.sum a' b') t m A B W V = absurd (let z : ◌≡◌ {A = ℕ} 2 1 = ap tag t in omega arith)
 gate_told n le (wire.scale a c d) (wire.scale a' c' d') t m A B W V = λ i. wire.scale (ap one t i) (ap two t i) (ap three t i)
-gate_told n le (wire.scale a c d) (wire.product a' b' x' y' z') t m A B W V = absurd (let z : ◌≡◌ {A = ℕ} 2 3 = ap tag t in omega arith)
-gate_told n le (wire.scale a c d) (wire.piece a' p' q' k' β' e' o') t m A B W V = absurd (let z : ◌≡◌ {A = ℕ} 2 4 = ap tag t in omega arith)
-gate_told n le (wire.scale a c d) (wire.flag a' p' q' k' β' e' o') t m A B W V = absurd (let z : ◌≡◌ {A = ℕ} 2 5 = ap tag t in omega arith)
-gate_told n le (wire.scale a c d) (wire.shift a' s' l' h' r') t m A B W V = absurd (let z : ◌≡◌ {A = ℕ} 2 6 = ap tag t in omega arith)
-gate_told n le (wire.scale a c d) (wire.signed_shift a' s' l' h' r') t m A B W V = absurd (let z : ◌≡◌ {A = ℕ} 2 7 = ap tag t in omega arith)
-gate_told n le (wire.scale a c d) (wire.xor a' b') t m A B W V = absurd (let z : ◌≡◌ {A = ℕ} 2 8 = ap tag t in omega arith)
-gate_told n le (wire.product a b x y z) (wire.sum a' b') t m A B W V = absurd (let z : ◌≡◌ {A = ℕ} 3 1 = ap tag t in omega arith)
-gate_told n le (wire.product a b x y z) (wire.scale a' c' d') t m A B W V = absurd (let z : ◌≡◌ {A = ℕ} 3 2 = ap tag t in omega arith)
 gate_told n le (wire.product a b x y z) (wire.product a' b' x' y' z') t m A B W V =
     let f = four_bytes in
     let r = same_back (f x) (f y ++ f z) (f x') (f y' ++ f z') refl m in
@@ -167,58 +128,19 @@ gate_told n le (wire.product a b x y z) (wire.product a' b' x' y' z') t m A B W 
     let ey = number_told y y' (below_32 n y le A.1) (below_32 n y' le B.1) (same_front (f y) (f z) (f y') (f z') refl r) in
     let ez = number_told z z' (below_32 n z le A.2) (below_32 n z' le B.2) (same_back (f y) (f z) (f y') (f z') refl r) in
     λ i. wire.product (ap one t i) (ap two t i) (ex i) (ey i) (ez i)
-gate_told n le (wire.product a b x y z) (wire.piece a' p' q' k' β' e' o') t m A B W V = absurd (let z : ◌≡◌ {A = ℕ} 3 4 = ap tag t in omega arith)
-gate_told n le (wire.product a b x y z) (wire.flag a' p' q' k' β' e' o') t m A B W V = absurd (let z : ◌≡◌ {A = ℕ} 3 5 = ap tag t in omega arith)
-gate_told n le (wire.product a b x y z) (wire.shift a' s' l' h' r') t m A B W V = absurd (let z : ◌≡◌ {A = ℕ} 3 6 = ap tag t in omega arith)
-gate_told n le (wire.product a b x y z) (wire.signed_shift a' s' l' h' r') t m A B W V = absurd (let z : ◌≡◌ {A = ℕ} 3 7 = ap tag t in omega arith)
-gate_told n le (wire.product a b x y z) (wire.xor a' b') t m A B W V = absurd (let z : ◌≡◌ {A = ℕ} 3 8 = ap tag t in omega arith)
-gate_told n le (wire.piece a p q k β e o) (wire.sum a' b') t m A B W V = absurd (let z : ◌≡◌ {A = ℕ} 4 1 = ap tag t in omega arith)
-gate_told n le (wire.piece a p q k β e o) (wire.scale a' c' d') t m A B W V = absurd (let z : ◌≡◌ {A = ℕ} 4 2 = ap tag t in omega arith)
-gate_told n le (wire.piece a p q k β e o) (wire.product a' b' x' y' z') t m A B W V = absurd (let z : ◌≡◌ {A = ℕ} 4 3 = ap tag t in omega arith)
 gate_told n le (wire.piece a p q k β e o) (wire.piece a' p' q' k' β' e' o') t m A B W V =
     let u = interval_told quad_bytes 32 quad_sized quad_told k k' β β' e e' o o' (A.0 ∙ sym B.0) W V (below_32 n o le A.1) (below_32 n o' le B.1) m in
     λ i. wire.piece (ap one t i) (ap two t i) (ap three t i) (u.0 i) (u.1 i) (u.2 i) (u.3 i)
-gate_told n le (wire.piece a p q k β e o) (wire.flag a' p' q' k' β' e' o') t m A B W V = absurd (let z : ◌≡◌ {A = ℕ} 4 5 = ap tag t in omega arith)
-gate_told n le (wire.piece a p q k β e o) (wire.shift a' s' l' h' r') t m A B W V = absurd (let z : ◌≡◌ {A = ℕ} 4 6 = ap tag t in omega arith)
-gate_told n le (wire.piece a p q k β e o) (wire.signed_shift a' s' l' h' r') t m A B W V = absurd (let z : ◌≡◌ {A = ℕ} 4 7 = ap tag t in omega arith)
-gate_told n le (wire.piece a p q k β e o) (wire.xor a' b') t m A B W V = absurd (let z : ◌≡◌ {A = ℕ} 4 8 = ap tag t in omega arith)
-gate_told n le (wire.flag a p q k β e o) (wire.sum a' b') t m A B W V = absurd (let z : ◌≡◌ {A = ℕ} 5 1 = ap tag t in omega arith)
-gate_told n le (wire.flag a p q k β e o) (wire.scale a' c' d') t m A B W V = absurd (let z : ◌≡◌ {A = ℕ} 5 2 = ap tag t in omega arith)
-gate_told n le (wire.flag a p q k β e o) (wire.product a' b' x' y' z') t m A B W V = absurd (let z : ◌≡◌ {A = ℕ} 5 3 = ap tag t in omega arith)
-gate_told n le (wire.flag a p q k β e o) (wire.piece a' p' q' k' β' e' o') t m A B W V = absurd (let z : ◌≡◌ {A = ℕ} 5 4 = ap tag t in omega arith)
 gate_told n le (wire.flag a p q k β e o) (wire.flag a' p' q' k' β' e' o') t m A B W V =
     let u = interval_told flag_bytes 4 flag_sized flag_told k k' β β' e e' o o' (A.0 ∙ sym B.0) W V A.1 B.1 m in
     λ i. wire.flag (ap one t i) (ap two t i) (ap three t i) (u.0 i) (u.1 i) (u.2 i) (u.3 i)
-gate_told n le (wire.flag a p q k β e o) (wire.shift a' s' l' h' r') t m A B W V = absurd (let z : ◌≡◌ {A = ℕ} 5 6 = ap tag t in omega arith)
-gate_told n le (wire.flag a p q k β e o) (wire.signed_shift a' s' l' h' r') t m A B W V = absurd (let z : ◌≡◌ {A = ℕ} 5 7 = ap tag t in omega arith)
-gate_told n le (wire.flag a p q k β e o) (wire.xor a' b') t m A B W V = absurd (let z : ◌≡◌ {A = ℕ} 5 8 = ap tag t in omega arith)
-gate_told n le (wire.shift a s l h r) (wire.sum a' b') t m A B W V = absurd (let z : ◌≡◌ {A = ℕ} 6 1 = ap tag t in omega arith)
-gate_told n le (wire.shift a s l h r) (wire.scale a' c' d') t m A B W V = absurd (let z : ◌≡◌ {A = ℕ} 6 2 = ap tag t in omega arith)
-gate_told n le (wire.shift a s l h r) (wire.product a' b' x' y' z') t m A B W V = absurd (let z : ◌≡◌ {A = ℕ} 6 3 = ap tag t in omega arith)
-gate_told n le (wire.shift a s l h r) (wire.piece a' p' q' k' β' e' o') t m A B W V = absurd (let z : ◌≡◌ {A = ℕ} 6 4 = ap tag t in omega arith)
-gate_told n le (wire.shift a s l h r) (wire.flag a' p' q' k' β' e' o') t m A B W V = absurd (let z : ◌≡◌ {A = ℕ} 6 5 = ap tag t in omega arith)
 gate_told n le (wire.shift a s l h r) (wire.shift a' s' l' h' r') t m A B W V =
     let es : s ≡ s' = ap two t in
     let u = shift_told l h l' h' r r' (A.0 ∙ es ∙ sym B.0) (A.1 ∙ sym B.1) W V (below_32 n r le A.2) (below_32 n r' le B.2) m in
     λ i. wire.shift (ap one t i) (es i) (u.0 i) (u.1 i) (u.2 i)
-gate_told n le (wire.shift a s l h r) (wire.signed_shift a' s' l' h' r') t m A B W V = absurd (let z : ◌≡◌ {A = ℕ} 6 7 = ap tag t in omega arith)
-gate_told n le (wire.shift a s l h r) (wire.xor a' b') t m A B W V = absurd (let z : ◌≡◌ {A = ℕ} 6 8 = ap tag t in omega arith)
-gate_told n le (wire.signed_shift a s l h r) (wire.sum a' b') t m A B W V = absurd (let z : ◌≡◌ {A = ℕ} 7 1 = ap tag t in omega arith)
-gate_told n le (wire.signed_shift a s l h r) (wire.scale a' c' d') t m A B W V = absurd (let z : ◌≡◌ {A = ℕ} 7 2 = ap tag t in omega arith)
-gate_told n le (wire.signed_shift a s l h r) (wire.product a' b' x' y' z') t m A B W V = absurd (let z : ◌≡◌ {A = ℕ} 7 3 = ap tag t in omega arith)
-gate_told n le (wire.signed_shift a s l h r) (wire.piece a' p' q' k' β' e' o') t m A B W V = absurd (let z : ◌≡◌ {A = ℕ} 7 4 = ap tag t in omega arith)
-gate_told n le (wire.signed_shift a s l h r) (wire.flag a' p' q' k' β' e' o') t m A B W V = absurd (let z : ◌≡◌ {A = ℕ} 7 5 = ap tag t in omega arith)
-gate_told n le (wire.signed_shift a s l h r) (wire.shift a' s' l' h' r') t m A B W V = absurd (let z : ◌≡◌ {A = ℕ} 7 6 = ap tag t in omega arith)
 gate_told n le (wire.signed_shift a s l h r) (wire.signed_shift a' s' l' h' r') t m A B W V =
     let es : s ≡ s' = ap two t in
     let u = shift_told l h l' h' r r' (A.0 ∙ es ∙ sym B.0) (A.1 ∙ sym B.1) W V (below_32 n r le A.2) (below_32 n r' le B.2) m in
     λ i. wire.signed_shift (ap one t i) (es i) (u.0 i) (u.1 i) (u.2 i)
-gate_told n le (wire.signed_shift a s l h r) (wire.xor a' b') t m A B W V = absurd (let z : ◌≡◌ {A = ℕ} 7 8 = ap tag t in omega arith)
-gate_told n le (wire.xor a b) (wire.sum a' b') t m A B W V = absurd (let z : ◌≡◌ {A = ℕ} 8 1 = ap tag t in omega arith)
-gate_told n le (wire.xor a b) (wire.scale a' c' d') t m A B W V = absurd (let z : ◌≡◌ {A = ℕ} 8 2 = ap tag t in omega arith)
-gate_told n le (wire.xor a b) (wire.product a' b' x' y' z') t m A B W V = absurd (let z : ◌≡◌ {A = ℕ} 8 3 = ap tag t in omega arith)
-gate_told n le (wire.xor a b) (wire.piece a' p' q' k' β' e' o') t m A B W V = absurd (let z : ◌≡◌ {A = ℕ} 8 4 = ap tag t in omega arith)
-gate_told n le (wire.xor a b) (wire.flag a' p' q' k' β' e' o') t m A B W V = absurd (let z : ◌≡◌ {A = ℕ} 8 5 = ap tag t in omega arith)
-gate_told n le (wire.xor a b) (wire.shift a' s' l' h' r') t m A B W V = absurd (let z : ◌≡◌ {A = ℕ} 8 6 = ap tag t in omega arith)
-gate_told n le (wire.xor a b) (wire.signed_shift a' s' l' h' r') t m A B W V = absurd (let z : ◌≡◌ {A = ℕ} 8 7 = ap tag t in omega arith)
 gate_told n le (wire.xor a b) (wire.xor a' b') t m A B W V = λ i. wire.xor (ap one t i) (ap two t i)
+gate_told n le g G t m A B W V = absurd (let z = ap (λ h. number_of (kind_of h)) t in omega arith)

@@ -59,23 +59,9 @@ first_word g u ws ms n k = go g k
     go : (g : GateBody) → is_keyed g ≡ true → gate_mask n ms (get_or (front (words_of g) (drop u ws)) 0 0) g ≡ gate_mask n ms (get_or ws u 0) g
     go (Sum a b) k = absurd (false≢true k)
     go (Scale a c d) k = absurd (false≢true k)
-    go (Product a b) k = ap (λ z. z % 2 ^ n) at
-    go (Piece a p q c) k = ap (λ z. z % 2 ^ n) at
-    go (Flag a p q t) k = ap (λ z. z % 2 ^ 32) at
-    go (Shift a s) k = ap (λ z. z % 2 ^ n) at
-    go (SignedShift a s) k = ap (λ z. z % 2 ^ n) at
     go (Xor a b) k = absurd (false≢true k)
-
--- a local gate's mask has no word of its own
-no_word : (g : GateBody) (u v : ℕ) (ms : List ℕ) (n : ℕ) → is_keyed g ≡ false → gate_mask n ms u g ≡ gate_mask n ms v g
-no_word (Sum a b) u v ms n k = refl
-no_word (Scale a c d) u v ms n k = refl
-no_word (Product a b) u v ms n k = absurd (false≢true (sym k))
-no_word (Piece a p q c) u v ms n k = absurd (false≢true (sym k))
-no_word (Flag a p q t) u v ms n k = absurd (false≢true (sym k))
-no_word (Shift a s) u v ms n k = absurd (false≢true (sym k))
-no_word (SignedShift a s) u v ms n k = absurd (false≢true (sym k))
-no_word (Xor a b) u v ms n k = refl
+    go (Flag a p q t) k = ap (λ z. z % 2 ^ 32) at
+    go g k = ap (λ z. z % 2 ^ n) at
 
 module _ (d x y : Expansion) (wide : AllWide d) (ex : d ≡ x) (ey : d ≡ y)
     (p : Planned) (number : ℕ) (words : List ℕ) (b count : ℕ) (a : Accepted p b count) where
@@ -202,8 +188,6 @@ module _ (d x y : Expansion) (wide : AllWide d) (ex : d ≡ x) (ey : d ≡ y)
   keyed_body : (k : ℕ) (g : GateBody) (w vs : List ℕ) → is_keyed g ≡ true → reads_fit p k g ≡ true → fields_fit p.width g ≡ true
       → AllWithin (wiring_of p) (reads g) vs
       → Joined w g (hide_all (wiring_of p) (deal_of d x y p number words) (reads g) vs) (plain_gate p.width g vs)
-  keyed_body k (Sum i j) w vs e r f c = absurd (false≢true e)
-  keyed_body k (Scale i u v) w vs e r f c = absurd (false≢true e)
   keyed_body k (Product i j) w [] e r f c = absurd c
   keyed_body k (Product i j) w (v ∷ []) e r f c = absurd c.1
   keyed_body k (Product i j) w (v ∷ u ∷ []) e r f c =
@@ -243,7 +227,7 @@ module _ (d x y : Expansion) (wide : AllWide d) (ex : d ≡ x) (ey : d ≡ y)
       one_held w (SignedShift i s) i v _ ei
       (signed_joined w i s v ei (ltb-true s p.width (and_parts (leb 1 s) (ltb s p.width) f).1) (number_below p.width (is_flag p i) v ei c.0))
   keyed_body k (SignedShift i s) w (v ∷ u ∷ vs) e r f c = absurd c.1
-  keyed_body k (Xor i j) w vs e r f c = absurd (false≢true e)
+  keyed_body k g w vs e r f c = absurd (false≢true e)
 
   -- a local gate's held value is its plain meaning with its mask on
   local_body : (k : ℕ) (g : GateBody) (w vs : List ℕ) (u : ℕ) → is_keyed g ≡ false → reads_fit p k g ≡ true
@@ -261,11 +245,6 @@ module _ (d x y : Expansion) (wide : AllWide d) (ex : d ≡ x) (ey : d ≡ y)
   local_body k (Scale i m z) w (v ∷ vs) u e r c =
       ap (λ (h : ℕ). (m * h + z) % 2 ^ p.width) (number_sum p.width (is_flag p i) v (get_or (masks p words) i 0) (number_read p k i r).1)
       ∙ scale_held (2 ^ p.width) m v z (get_or (masks p words) i 0)
-  local_body k (Product i j) w vs u e r c = absurd (false≢true (sym e))
-  local_body k (Piece i l h t) w vs u e r c = absurd (false≢true (sym e))
-  local_body k (Flag i l h t) w vs u e r c = absurd (false≢true (sym e))
-  local_body k (Shift i s) w vs u e r c = absurd (false≢true (sym e))
-  local_body k (SignedShift i s) w vs u e r c = absurd (false≢true (sym e))
   local_body k (Xor i j) w [] u e r c = absurd c
   local_body k (Xor i j) w (v ∷ []) u e r c = absurd c.1
   local_body k (Xor i j) w (v ∷ t ∷ vs) u e r c =
@@ -273,6 +252,7 @@ module _ (d x y : Expansion) (wide : AllWide d) (ex : d ≡ x) (ey : d ≡ y)
       ap₂ bit_xor (flag_sum p.width (is_flag p i) v (get_or (masks p words) i 0) (flag_read p k i q.0).1)
       (flag_sum p.width (is_flag p j) t (get_or (masks p words) j 0) (flag_read p k j q.1).1)
       ∙ xor_held v t (get_or (masks p words) i 0) (get_or (masks p words) j 0)
+  local_body k g w vs u e r c = absurd (false≢true (sym e))
 
   abbrev W : Wiring
   W = wiring_of p

@@ -4,7 +4,7 @@ use lib.Bits.{bit_xor}
 use lib.ListN.{length-replicate}
 use Rattle.std.proofs.lemmas.Bool.{and_parts, ltb-true, lt-ltb, le-ltb, cases_eq, false≢true}
 use Rattle.plan.specs.Gates.{GateBody}
-use Rattle.plan.specs.declared.gates.Gate.TheVariants.{Sum, Scale, Product, Piece, Flag, Shift, SignedShift, Xor}
+use Rattle.plan.specs.declared.gates.Gate.TheVariants.{Sum, Scale, Xor}
 use Rattle.plan.specs.Plans.{Planned, wires, is_input, is_flag, row_at, words_before}
 use Rattle.plan.specs.Questions.{lower_number, lower_flag, reads_fit}
 use Rattle.plan.proofs.Accepted.{Accepted, gate_reads}
@@ -84,11 +84,7 @@ module _ (p : Planned) (words : List ℕ) (b count : ℕ) (a : Accepted p b coun
           let c = and_parts (lower_number p k i) (lower_number p k j) r in
           ap₂ (λ (x y : ℕ). (x + y) % 2 ^ p.width) (at i (number_read p k i c.0).0) (at j (number_read p k j c.1).0)
       same (Scale i c d) r = ap (λ (x : ℕ). c * x % 2 ^ p.width) (at i (number_read p k i r).0)
-      same (Product i j) r = refl
-      same (Piece i s t c) r = refl
-      same (Flag i s t c) r = refl
-      same (Shift i s) r = refl
-      same (SignedShift i s) r = refl
       same (Xor i j) r =
           let c = and_parts (lower_flag p k i) (lower_flag p k j) r in
           ap₂ bit_xor (at i (flag_read p k i c.0).0) (at j (flag_read p k j c.1).0)
+      same g r = refl
