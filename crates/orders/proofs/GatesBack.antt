@@ -1,5 +1,5 @@
 -- What a gate takes, written and read back.
-use Rattle.std.proofs.Common.{◌≡◌, ℕ, suc, ◌^◌, ◌<◌, true, cond, eqb, List, [], ◌∷◌, length, Ok, Err, decimal, Result, refl, ap, ◌∙◌, arith, eq-eqb}
+use Rattle.std.proofs.Common.{◌≡◌, ℕ, suc, ◌^◌, ◌<◌, ◌≤◌, true, cond, eqb, List, [], ◌∷◌, length, Ok, Err, decimal, Result, refl, ap, ◌∙◌, arith, eq-eqb}
 use Rattle.std.proofs.lemmas.Bool.{cond-true}
 use Rattle.std.specs.List.{AllByRecursion}
 use Rattle.orders.specs.declared.types.GateBody.{GateBody}
@@ -9,11 +9,11 @@ use Rattle.orders.specs.declared.types.GateName.TheVariants.{Piece, Flag, Shift,
 use Rattle.orders.specs.declared.types.GateOrder.{GateOrder}
 use Rattle.orders.specs.declared.types.Wrong.{Wrong}
 use Rattle.orders.specs.declared.types.Wrong.TheVariants.{CoefficientCount, WordCount}
-use Rattle.orders.specs.Grammar.{gate_name_of, coefficients_from, coefficients_of, numbers_from, random_words_of, placed, body_of, gate_of}
+use Rattle.orders.specs.Grammar.{gate_name_of, coefficients_of, numbers_from, numbers_of, random_words_of, placed, body_of, gate_of}
 use Rattle.orders.specs.Lines.{decimals, numbers_text, gate_text, body_words, gate_words, kind_text, RandomFits, BodyFits, GateFits}
 use Rattle.orders.specs.Text.{decimal_of}
 use Rattle.orders.proofs.Back.{lacks, pieces_joined, Word, decimal_word, decimal_back}
-use Rattle.orders.proofs.WordsBack.{next, kind_word, kind_back, joined_word, plain, word_back, flags_back, placed_ok}
+use Rattle.orders.proofs.WordsBack.{next, kind_word, kind_back, joined_word, plain, flags_back, placed_ok}
 
 name_in : GateBody → GateName
 name_in (gate.Piece mask low high coefficients random) = Piece
@@ -55,9 +55,10 @@ decimals_plain : (ns : List ℕ) → AllByRecursion (λ n. n < 2 ^ 64) ns → Al
 decimals_plain [] h = tt
 decimals_plain (n ∷ ns) h = (plain n h.0, decimals_plain ns h.1)
 
-numbers_back : (ns : List ℕ) → AllByRecursion (λ n. n < 2 ^ 64) ns → numbers_from (decimals ns) ≡ Ok ns
-numbers_back [] h = refl
-numbers_back (n ∷ ns) h = next _ (word_back n h.0) ∙ next _ (numbers_back ns h.1)
+numbers_back : (most : ℕ) (ns : List ℕ) → AllByRecursion (λ n. (n ≤ most) × (n < 2 ^ 64)) ns
+    → numbers_from (λ n. n) most (decimals ns) ≡ Ok ns
+numbers_back most [] h = refl
+numbers_back most (n ∷ ns) h = next _ (decimal_back most n h.0.0 h.0.1) ∙ next _ (numbers_back most ns h.1)
 
 length_decimals : (ns : List ℕ) → length (decimals ns) ≡ length ns
 length_decimals [] = refl
@@ -68,17 +69,25 @@ random_word count [] some h = absurd (omega (arith, h.0))
 random_word count (n ∷ ns) some h = joined_word (decimal n) (decimals ns) (decimals_words (n ∷ ns) h.1)
 
 -- the texts between the commas
-taken : ℕ → List (List ℕ) → Result (List ℕ) Wrong
-taken count ps = cond (eqb (length ps) count) (numbers_from ps) (Err WordCount)
+taken : ℕ → ℕ → Wrong → List (List ℕ) → Result (List ℕ) Wrong
+taken most count wrong ps = cond (eqb (length ps) count) (numbers_from (λ n. n) most ps) (Err wrong)
+
+counted_back : (most count : ℕ) (wrong : Wrong) (ns : List ℕ) → 0 < count → length ns ≡ count → AllByRecursion (λ n. n < 2 ^ 64) ns
+    → AllByRecursion (λ n. (n ≤ most) × (n < 2 ^ 64)) ns → numbers_of (λ n. n) most count wrong (numbers_text ns) ≡ Ok ns
+unfolding taken
+counted_back most count wrong [] some long wide fits = absurd (omega arith)
+counted_back most count wrong (n ∷ ns) some long wide fits =
+    ap (taken most count wrong) (pieces_joined 44 (decimal n) (decimals ns) (decimals_plain (n ∷ ns) wide))
+    ∙ cond-true (eqb (length (decimals (n ∷ ns))) count) (numbers_from (λ m. m) most (decimals (n ∷ ns))) (Err wrong)
+    (eq-eqb (length (decimals (n ∷ ns))) count (length_decimals (n ∷ ns) ∙ long))
+    ∙ numbers_back most (n ∷ ns) fits
+
+within_words : (ns : List ℕ) → AllByRecursion (λ n. n < 2 ^ 64) ns → AllByRecursion (λ n. (n ≤ 18446744073709551615) × (n < 2 ^ 64)) ns
+within_words [] h = tt
+within_words (n ∷ ns) h = ((omega (arith, h.0), h.0), within_words ns h.1)
 
 random_back : (count : ℕ) (ns : List ℕ) → 0 < count → RandomFits count ns → random_words_of count (numbers_text ns) ≡ Ok ns
-unfolding taken
-random_back count [] some h = absurd (omega (arith, h.0))
-random_back count (n ∷ ns) some h =
-    ap (taken count) (pieces_joined 44 (decimal n) (decimals ns) (decimals_plain (n ∷ ns) h.1))
-    ∙ cond-true (eqb (length (decimals (n ∷ ns))) count) (numbers_from (decimals (n ∷ ns))) (Err WordCount)
-    (eq-eqb (length (decimals (n ∷ ns))) count (length_decimals (n ∷ ns) ∙ h.0))
-    ∙ numbers_back (n ∷ ns) h.1
+random_back count ns some h = counted_back 18446744073709551615 count WordCount ns some h.0 h.1 (within_words ns h.1)
 
 abbrev Coefficients : List ℕ → Type 0
 Coefficients cs = (length cs ≡ 4) × AllByRecursion (λ n. n < 2 ^ 32) cs
@@ -90,21 +99,12 @@ wider (n ∷ ns) h = (omega (arith, h.0), wider ns h.1)
 coefficients_word : (cs : List ℕ) → Coefficients cs → Word (numbers_text cs)
 coefficients_word cs h = random_word 4 cs (omega arith) (h.0, wider cs h.1)
 
-four : List (List ℕ) → Result (List ℕ) Wrong
-four ps = cond (eqb (length ps) 4) (coefficients_from ps) (Err CoefficientCount)
+within_shorts : (ns : List ℕ) → AllByRecursion (λ n. n < 2 ^ 32) ns → AllByRecursion (λ n. (n ≤ 4294967295) × (n < 2 ^ 64)) ns
+within_shorts [] h = tt
+within_shorts (n ∷ ns) h = ((omega (arith, h.0), omega (arith, h.0)), within_shorts ns h.1)
 
 coefficients_back : (cs : List ℕ) → Coefficients cs → coefficients_of (numbers_text cs) ≡ Ok cs
-unfolding four
-coefficients_back (a ∷ b ∷ c ∷ d ∷ []) h =
-    let wide = wider (a ∷ b ∷ c ∷ d ∷ []) h.1 in
-    ap four (pieces_joined 44 (decimal a) (decimals (b ∷ c ∷ d ∷ [])) (decimals_plain (a ∷ b ∷ c ∷ d ∷ []) wide))
-    ∙ next _ (flags_back a h.1.0) ∙ next _ (flags_back b h.1.1.0) ∙ next _ (flags_back c h.1.1.1.0)
-    ∙ next _ (flags_back d h.1.1.1.1.0)
-coefficients_back [] h = absurd (omega (arith, h.0))
-coefficients_back (a ∷ []) h = absurd (omega (arith, h.0))
-coefficients_back (a ∷ b ∷ []) h = absurd (omega (arith, h.0))
-coefficients_back (a ∷ b ∷ c ∷ []) h = absurd (omega (arith, h.0))
-coefficients_back (a ∷ b ∷ c ∷ d ∷ e ∷ cs) h = absurd (omega (arith, h.0))
+coefficients_back cs h = counted_back 4294967295 4 CoefficientCount cs (omega arith) h.0 (wider cs h.1) (within_shorts cs h.1)
 
 -- a word of the line, read
 pub short_ok : (n i : ℕ) → n < 2 ^ 32 → placed (decimal n) i (decimal_of 4294967295 (decimal n)) ≡ Ok n

@@ -19,7 +19,7 @@ use Rattle.orders.specs.declared.types.Payload.TheVariants as payload
 use Rattle.orders.specs.declared.types.Wrong.{Wrong}
 use Rattle.orders.specs.declared.types.Wrong.TheVariants.{UnknownOrder, MissingWord, ExtraWord, UnknownKind, UnknownGroup, PayloadParts}
 use Rattle.orders.specs.declared.types.Wrong.TheVariants.{UnknownGate, CoefficientCount, WordCount}
-use Rattle.orders.specs.Text.{pieces, words, nth, decimal_of, seed_from}
+use Rattle.orders.specs.Text.{pieces, words, nth, number_of, decimal_of, seed_from}
 
 abbrev pub and_then : {A B E : Type 0} → Result A E → (A → Result B E) → Result B E
 and_then (Ok x) f = f x
@@ -76,23 +76,24 @@ gate_name_of w =
     (cond (bytes_eq w (codes "scale")) (Ok Scale)
     (cond (bytes_eq w (codes "xor")) (Ok Xor) (Err UnknownGate))))))))
 
+-- each text as a number that is at most `most`
+abbrev pub numbers_from : {A : Type 0} → (ℕ → A) → ℕ → List (List ℕ) → Result (List A) Wrong
+numbers_from held most [] = Ok []
+numbers_from held most (p ∷ ps) =
+    and_then (number_of held most p) (λ a. and_then (numbers_from held most ps) (λ rest. Ok (a ∷ rest)))
+
+-- so many numbers with commas between them
+abbrev pub numbers_of : {A : Type 0} → (ℕ → A) → ℕ → ℕ → Wrong → List ℕ → Result (List A) Wrong
+numbers_of held most count wrong w =
+    cond (length (pieces 44 w) == count) (numbers_from held most (pieces 44 w)) (Err wrong)
+
 -- four numbers of 32 bits
-abbrev pub coefficients_from : List (List ℕ) → Result (List ℕ) Wrong
-coefficients_from ps =
-    and_then (flags_part ps 0) (λ a. and_then (flags_part ps 1) (λ b.
-    and_then (flags_part ps 2) (λ c. and_then (flags_part ps 3) (λ d. Ok (a ∷ b ∷ c ∷ d ∷ [])))))
-
 abbrev pub coefficients_of : List ℕ → Result (List ℕ) Wrong
-coefficients_of w = cond (length (pieces 44 w) == 4) (coefficients_from (pieces 44 w)) (Err CoefficientCount)
+coefficients_of w = numbers_of (λ n. n) 4294967295 4 CoefficientCount w
 
--- each text as a number of 64 bits
-abbrev pub numbers_from : List (List ℕ) → Result (List ℕ) Wrong
-numbers_from [] = Ok []
-numbers_from (p ∷ ps) = and_then (decimal_of 18446744073709551615 p) (λ a. and_then (numbers_from ps) (λ rest. Ok (a ∷ rest)))
-
--- random words with commas between them
+-- random words of 64 bits
 abbrev pub random_words_of : ℕ → List ℕ → Result (List ℕ) Wrong
-random_words_of count w = cond (length (pieces 44 w) == count) (numbers_from (pieces 44 w)) (Err WordCount)
+random_words_of count w = numbers_of (λ n. n) 18446744073709551615 count WordCount w
 
 abbrev pub fault : Wrong → ℕ → Fault
 fault what n = record { what = what; word = n }

@@ -1,10 +1,11 @@
 // Orders for gates: deal one, and hold values at it.
 ghost use Rattle.std.specs.Prelude.{◌≡◌};
 ghost use Rattle.orders.specs.declared.types.GateName.TheVariants.{Piece, Flag, Product, Scale};
-ghost use Rattle.orders.specs.Grammar.{gate_name_of, coefficients_of, random_words_of, two_masks_of, shift_of, body_of, gate_of, hold_of};
+ghost use Rattle.orders.specs.Grammar.{gate_name_of, numbers_of, coefficients_of, random_words_of, two_masks_of, shift_of, body_of, gate_of, hold_of};
 ghost use Rattle.orders.specs.Text.{words};
 
 use crate::fields::{ended, field, kind_of, number_at, number_part};
+use crate::number::Number;
 use crate::text::{pieces_of, word_at};
 use crate::types::{Fault, GateBody, GateName, GateOrder, Order, Wrong};
 
@@ -24,33 +25,33 @@ pub fn gate_name_of(word: &[u8]) -> Result<GateName, Wrong>
     }
 }
 
+// K numbers of a type with commas between them.
+fn numbers_of<N: Number + Copy, const K: usize>(word: &[u8], wrong: Wrong) -> Result<[N; K], Wrong>
+    ensures { result ≡ numbers_of N.held N.MOST K wrong word.now }
+{
+    if pieces_of(word, b',') != K {
+        return Err(wrong);
+    }
+    let mut numbers = [N::hold(0); K];
+    // Stays: `array::from_fn` cannot stop at a number that is wrong, and a list needs memory, which can run out.
+    for i in 0..K {
+        numbers[i] = number_part(word, i)?;
+    }
+    Ok(numbers)
+}
+
 // Four numbers of 32 bits with commas between them.
 pub fn coefficients_of(word: &[u8]) -> Result<[u32; 4], Wrong>
     ensures { result ≡ coefficients_of word.now }
 {
-    if pieces_of(word, b',') != 4 {
-        return Err(Wrong::CoefficientCount);
-    }
-    let a = number_part(word, 0)?;
-    let b = number_part(word, 1)?;
-    let c = number_part(word, 2)?;
-    let d = number_part(word, 3)?;
-    Ok([a, b, c, d])
+    numbers_of(word, Wrong::CoefficientCount)
 }
 
 // K numbers of 64 bits with commas between them.
 pub fn random_words_of<const K: usize>(word: &[u8]) -> Result<[u64; K], Wrong>
     ensures { result ≡ random_words_of K word.now }
 {
-    if pieces_of(word, b',') != K {
-        return Err(Wrong::WordCount);
-    }
-    let mut random = [0; K];
-    // Stays: `array::from_fn` cannot stop at a number that is wrong, and a list needs memory, which can run out.
-    for i in 0..K {
-        random[i] = number_part(word, i)?;
-    }
-    Ok(random)
+    numbers_of(word, Wrong::WordCount)
 }
 
 // MASK LOW HIGH C0,C1,C2,C3 WORDS

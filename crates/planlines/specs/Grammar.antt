@@ -9,8 +9,8 @@ use Rattle.orders.specs.declared.types.Wrong.{Wrong}
 use Rattle.orders.specs.declared.types.Wrong.TheVariants.{NotHex}
 use Rattle.orders.specs.Grammar.{and_then, field, short_field, byte_field, numbered, ended, kind_of, gate_name_of, coefficients_of}
 use Rattle.orders.specs.Text.{pieces, words, nth, decimal_of, hex_of, byte_of}
-use Rattle.plan.specs.declared.GateBody.{GateBody}
-use Rattle.plan.specs.declared.GateBody.TheVariants as gate
+use Rattle.plan.specs.Gates.{GateBody}
+use Rattle.plan.specs.declared.gates.Gate.TheVariants as gate
 use Rattle.planlines.specs.declared.types.PlanLine.{PlanLine}
 use Rattle.planlines.specs.declared.types.PlanLine.TheVariants.{Begin, Gate, Words, Books, Book}
 

@@ -1,14 +1,6 @@
-use Rattle.std.proofs.Common.{min, get_or, ap, ◌∙◌, arith}
-use Rattle.std.proofs.lemmas.List.{take_all}
-use Rattle.orders.specs.Text.{value}
-use Rattle.orders.proofs.Numbers.{digit_at, digit_range, value_more}
+use Rattle.std.proofs.Common.{arith}
+use Rattle.orders.proofs.Numbers.{value_more}
 use Rattle.orders.proofs.text.value_of.Goals as goal
-
-pub overflow_sub-b : goal.overflow_sub-b
-overflow_sub-b c =
-    let w = c.args.word.now in
-    let i = c.loop-b.b-index in
-    omega (arith, digit_range (get_or w i 0) (digit_at w i c.requires.0 (omega arith)))
 
 pub loop-b-preserved : goal.loop-b-preserved
 loop-b-preserved c =
@@ -16,6 +8,3 @@ loop-b-preserved c =
     let i = c.loop-b.b-index in
     let more = value_more w i (omega arith) in
     omega (arith, c.loop-b.invariant, c.min-sum.ensures)
-
-pub returns : goal.returns
-returns c = c.loop-b.invariant ∙ ap (λ s. min (value s) c.args.top) (take_all c.loop-b.b-index c.args.word.now (omega arith))
