@@ -26,6 +26,7 @@ pub fn words_from<const K: usize>(words: &[u64]) -> [u64; K]
 }
 
 // A wire's mask in the table.
+// Stays: no heap in a box, so the masks are a table of fixed size.
 pub fn mask_in(masks: &[u32; 48], wire: usize) -> u32
     ensures { result ≡ slice_index masks.now wire }
 {
@@ -65,6 +66,7 @@ pub fn words_at(plan: Plan, k: usize) -> usize
     plan.get(k).map_or(0, |wire| wire.words())
 }
 
+// Stays: a plan and a width, since a CheckedPlan would ask for more than the masks need.
 // The masks of all wires. Each wire takes its random words from the front of what the wires below it leave.
 pub fn masks_of(width: Width, plan: Plan, words: &[u64]) -> [u32; 48]
     requires { (length plan.owners.now + length plan.rows.now ≤ 48) × (plan.width ≡ width.bits) }

@@ -1,7 +1,8 @@
 // A gate with the wires that it reads and its plain numbers, in a plan and in a book.
 ghost use Rattle.std.specs.Prelude.{◌≡◌, ℕ, ◌≤◌, Bool};
 ghost use Rattle.plan.specs.Gates.{number_of, IsNumbered, kind_gives_flag, kind_is_keyed, kind_words, kind_of};
-ghost use Rattle.plan.specs.Gates.{below, interval_fits, shift_fits, gives_flag, is_keyed, words_of, numbers_fit, lower_number, lower_flag, reads_fit};
+ghost use Rattle.plan.specs.Gates.{below, interval_fits, shift_fits, gives_flag, is_keyed, words_of};
+ghost use Rattle.plan.specs.Gates.{numbers_fit, lower_number, lower_flag, reads_fit};
 
 // What a gate does; a book names it by its number.
 #[derive(Clone, Copy, Debug, PartialEq, Eq)]

@@ -12,10 +12,10 @@ mod lengths;
 
 pub use asking::check_plan;
 pub use checked::CheckedPlan;
-pub use lengths::compared_long;
 pub use gates::{
     Gate, GateBody, GateHead, GateKind, UnknownKind, Wires, below, interval_fits, shift_fits,
 };
+pub use lengths::compared_long;
 
 // One gate of a plan, and whether its wire is shown.
 #[derive(Clone, Copy)]
@@ -25,6 +25,8 @@ pub struct PlanRow {
 }
 
 // Wires count the inputs first, then the gates.
+// Stays: a struct that is copied has no model where it has a lifetime; clauses say `stated`.
+// Stays: owners are bytes, since any byte is asked about (question 3), and a book writes them as they are.
 #[derive(Clone, Copy)]
 pub struct Plan<'a> {
     pub width: u8,

@@ -1,5 +1,5 @@
 -- The entry of a wire among the chunks of a book.
-use Rattle.std.proofs.Common.{◌≡◌, ℕ, ◌+◌, ◌-◌, ◌*◌, ◌/◌, ◌<◌, ◌≤◌, Bool, true, false, List, length, drop, take, slice_range, Some, None, Option, Bor, sym, ap, ◌∙◌, subst, arith, lit<, MatchOption, IfSome, length-drop}
+use Rattle.std.proofs.Common.{◌≡◌, ℕ, ◌+◌, ◌-◌, ◌*◌, ◌/◌, ◌<◌, ◌≤◌, Bool, true, List, length, drop, take, slice_range, Some, None, Option, Bor, sym, ap, ◌∙◌, subst, arith, lit<, MatchOption, IfSome, length-drop}
 use Rattle.std.proofs.lemmas.List.{drop-drop}
 use Rattle.std.proofs.Math.Nat.{lt-div-mul-add}
 use Rattle.std.specs.List.{IsSubsliceAt}

@@ -1,3 +1,4 @@
+mod Gapless
 mod Entries
 pub mod Yes
 pub mod Laid

@@ -28,6 +28,11 @@ counts_fit book = within 1 32 (slice_index book 3) && (within 1 16 (slice_index 
 abbrev pub entry_fits : List ℕ → ℕ → ℕ → Bool
 entry_fits book k at = number_at book (16 + 8 * k) == at && nat_le (at + number_at book (20 + 8 * k)) (length book)
 
+-- where it ends then
+abbrev pub body_end : List ℕ → ℕ → ℕ → Option ℕ
+body_end book k at =
+    cond (nat_le (24 + 8 * k) (length book) && entry_fits book k at) (Some (at + number_at book (20 + 8 * k))) None
+
 -- does each of the n bodies from wire k on begin where the one before ends, the first at `at`, and the last end the book?
 abbrev pub gapless : List ℕ → ℕ → ℕ → ℕ → Bool
 gapless book zero k at = at == length book

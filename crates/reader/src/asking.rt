@@ -1,11 +1,11 @@
 // The questions about a book.
-ghost use Rattle.std.specs.Prelude.{◌≡◌, ◌+◌, ◌*◌, ◌<◌, ◌≤◌, length, Ok};
+ghost use Rattle.std.specs.Prelude.{◌≡◌, ◌+◌, ◌*◌, ◌≤◌, length, Ok};
 ghost use Rattle.refusal.specs.Questions.{answered};
 ghost use Rattle.reader.specs.Law.{Tells};
-ghost use Rattle.reader.specs.Questions.{entry_fits, gapless, reads_in, wire_fits, wires_fit, book_asks};
+ghost use Rattle.reader.specs.Questions.{body_end, gapless, reads_in, wire_fits, wires_fit, book_asks};
 
-use crate::reading::{Book, body_in};
-use bodies::{GateHead, byte_in, gate_fits, head_in, input_fits};
+use crate::reading::{Book, body_in, entry_in};
+use bodies::{GateHead, byte_in, gate_fits, head_in, input_fits, number_in};
 use buffers::number_at;
 use refusal::Refusal;
 
@@ -39,13 +39,14 @@ impl<'a> Book<'a> {
     }
 }
 
-// Does the body of wire k begin at a place, and end within the book?
-fn entry_fits(book: &[u8], k: usize, at: usize) -> bool
-    requires { (k < 48) × ((24 + 8 * k ≤ length book.now) × (at ≤ length book.now)) }
-    ensures { result ≡ entry_fits book.now k at }
+// Where the body of wire k ends, if it begins at a place and ends within the book.
+fn body_end(book: &[u8], k: usize, at: usize) -> Option<usize>
+    ensures { result ≡ body_end book.now k at }
 {
-    number_at(book, 16 + 8 * k) as usize == at
-        && number_at(book, 20 + 8 * k) as usize <= book.len() - at
+    let entry = entry_in(book, k)?;
+    let start = number_in(entry, 0) as usize;
+    let end = start + number_in(entry, 4) as usize;
+    (start == at && end <= book.len()).then_some(end)
 }
 
 // Does each body begin where the one before ends, and the last end the book?
@@ -53,14 +54,8 @@ fn is_gapless(book: &[u8], wires: usize) -> bool
     requires { (16 + 8 * wires ≤ length book.now) × (wires ≤ 48) }
     ensures { result ≡ gapless book.now wires 0 (16 + 8 * wires) }
 {
-    let mut at = 16 + 8 * wires;
-    for k in 0..wires {
-        if !entry_fits(book, k, at) {
-            return false;
-        }
-        at += number_at(book, 20 + 8 * k) as usize;
-    }
-    at == book.len()
+    let start = 16 + 8 * wires;
+    (0..wires).try_fold(start, |at, k| body_end(book, k, at)) == Some(book.len())
 }
 
 // The questions 11 to 16, one after another.

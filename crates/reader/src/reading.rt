@@ -6,6 +6,7 @@ use crate::BookHeader;
 use bodies::{WireBody, after, byte_in, gate_in, input_in, number_in, part_of};
 use plan::{GateKind, Wires};
 
+// Stays: a book is any bytes that a box is given, so what reads one takes bytes.
 pub fn header_in(book: &[u8]) -> BookHeader
     ensures { headed result ≡ header_in book.now }
 {
@@ -20,7 +21,7 @@ pub fn header_in(book: &[u8]) -> BookHeader
 }
 
 // The eight bytes of wire k in the contents, where they are all there.
-fn entry_in(book: &[u8], k: usize) -> Option<&[u8]>
+pub(crate) fn entry_in(book: &[u8], k: usize) -> Option<&[u8]>
     ensures { MatchOption result (length book.now < 24 + 8 * k)
         (λ entry. (24 + 8 * k ≤ length book.now) × (entry.now ≡ slice_range book.now (16 + 8 * k) (24 + 8 * k))) }
 {

@@ -1,4 +1,4 @@
-use Rattle.std.proofs.Common.{◌≡◌, drop, sym, ap, ◌∙◌, arith}
+use Rattle.std.proofs.Common.{◌≡◌, drop, ap, ◌∙◌, arith}
 use Rattle.reader.proofs.Entries.{entry_told}
 use Rattle.reader.proofs.reading.entry_in.Goals as goal
 
