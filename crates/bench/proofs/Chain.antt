@@ -1,5 +1,5 @@
 -- One level, from what the calls give.
-use Rattle.std.proofs.Common.{◌≡◌, ℕ, zero, suc, ◌+◌, List, get_or, refl, sym, ap, ◌∙◌, add-zero, add-one, zero-add, arith}
+use Rattle.std.proofs.Common.{◌≡◌, ℕ, zero, suc, ◌+◌, true, List, map, get_or, refl, sym, ap, ◌∙◌, add-zero, zero-add, arith}
 use native.Mathlib.Nat.{sub-zero}
 use Rattle.std.specs.List.{fold, range_with_len}
 use Rattle.std.specs.Fn.{Called}
@@ -14,6 +14,12 @@ use Rattle.expander.specs.Seeds.{xor_seeds}
 use Rattle.expander.specs.declared.Seed.{Seed}
 use Rattle.expander.specs.declared.Branches.{Branches}
 use Rattle.gatekeys.specs.Random.{root_of}
+use Rattle.key.specs.declared.Row.{Row}
+use Rattle.key.specs.Rows.{row_mean}
+use Rattle.evaluation.specs.Evaluation.{evaluated}
+use Rattle.dealing.specs.Dealing.{start, dealt_rows, dealt_last}
+use Rattle.joining.specs.Joining.{dealt_answer}
+use Rattle.joining.proofs.Same.{same_evaluated}
 use Rattle.group.specs.Groups.{OutputGroup}
 use Rattle.bench.specs.Workloads.{level, sum_of}
 
@@ -27,10 +33,22 @@ level_of x seed b words r s eb ew er es =
     ∙ ap (xor_seeds b.left.seed) (er ∙ ap front ew)
     ∙ ap (λ (b : Branches). xor_seeds b.left.seed (front (x.draw b.left.value))) eb
 
--- one more summand
-pub added : {M : Type 0} (g : OutputGroup M) (f : ℕ → M) (i : ℕ) (a b c : M)
-    → a ≡ sum_of g f i → b ≡ f i → c ≡ g.sum a b → c ≡ sum_of g f (i + 1)
-added g f i a b c ea eb ec = rw add-one (ec ∙ ap (λ t. g.sum t b) ea ∙ ap (λ t. g.sum (sum_of g f i) t) eb)
+-- sums of equal summands
+summed : {M : Type 0} (g : OutputGroup M) (f h : ℕ → M) → ((i : ℕ) → f i ≡ h i) → (n : ℕ) → sum_of g f n ≡ sum_of g h n
+summed g f h e zero = refl
+summed g f h e (suc n) = ap (λ t. g.sum t (f n)) (summed g f h e n) ∙ ap (g.sum (sum_of g h n)) (e n)
+
+-- evaluating the rows that were dealt is evaluating the defined ones
+pub evaluates : {G M : Type 0} (x : Expansion) (g : OutputGroup M) (mean : G → M) (n α : ℕ) (β : M) (r0 r1 : Seed)
+    (rows : List (Row G)) (last : G) (at : ℕ → ℕ) (count : ℕ)
+    → map (row_mean mean) rows ≡ dealt_rows x g β α n (start g r0 r1) → mean last ≡ dealt_last x g β α n (start g r0 r1)
+    → sum_of g (λ i. evaluated x g mean true r1 rows last (at i)) count
+    ≡ sum_of g (λ i. dealt_answer g x x n α β r0 r1 true r1 (at i)) count
+evaluates x g mean n α β r0 r1 rows last at count er el =
+    summed g _ _
+    (λ i. same_evaluated x g mean true r1 rows last (at i)
+    ∙ ap (λ rs. evaluated x g (λ v. v) true r1 rs (mean last) (at i)) er
+    ∙ ap (λ l. evaluated x g (λ v. v) true r1 (dealt_rows x g β α n (start g r0 r1)) l (at i)) el) count
 
 -- what a fold over `0..n` comes to, where each turn takes R at k to R at k + 1
 module _ {M : Type 0} (h : M → ℕ → M) (R : ℕ → M) (next : (k : ℕ) → h (R k) k ≡ R (k + 1)) where

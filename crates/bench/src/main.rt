@@ -1,9 +1,11 @@
 // The benchmark program: checksums alone, or with the argument `time` the time of each workload too.
 #![tactic(auto)]
 
-ghost use Rattle.std.specs.Prelude.{◌≡◌, ◌<◌, ℕ, true, length, bit_xor};
-ghost use Rattle.dealing.specs.Dealing.{dealt_last, start};
+ghost use Rattle.std.specs.Prelude.{◌≡◌, ◌+◌, ◌*◌, ◌<◌, ℕ, true, map, length, slice_index, bit_xor};
+ghost use Rattle.dealing.specs.Dealing.{dealt_rows, dealt_last, start};
 ghost use Rattle.evaluation.specs.Evaluation.{evaluated};
+ghost use Rattle.joining.specs.Joining.{dealt_answer};
+ghost use Rattle.key.specs.Rows.{row_mean};
 ghost use Rattle.bench.specs.Workloads.{level, levels, place, root, sum_of};
 
 use aes::Aes128;
@@ -60,8 +62,11 @@ fn deal_one<X: Expander, G: Group>(
     payload: G,
     memory: &mut [Row<G>],
 ) -> G
-    ensures { G.Group.mean result
+    ensures last { G.Group.mean result
         ≡ dealt_last X.Expander.meaning G.Group.group (G.Group.mean payload) threshold (length memory.old)
+        (start G.Group.group (root 0) (root 16)) }
+    ensures rows { map (row_mean G.Group.mean) memory.new
+        ≡ dealt_rows X.Expander.meaning G.Group.group (G.Group.mean payload) threshold (length memory.old)
         (start G.Group.group (root 0) (root 16)) }
 {
     let roots = Roots {
@@ -82,6 +87,7 @@ fn deal_keys<X: Expander, G: Group>(
         ≡ sum_of G.Group.group (λ i. dealt_last X.Expander.meaning G.Group.group (G.Group.mean payload) (place i)
         (length memory.old) (start G.Group.group (root 0) (root 16))) count }
 {
+    // Stays: a loop. A fold's closure would write to the memory at each turn, and a proof knows nothing after such calls.
     let mut all = G::zero();
     for i in 0..count {
         all = all.add(deal_one(expander, place(i), payload, memory));
@@ -110,7 +116,11 @@ fn evaluate_key<X: Expander, G: Group>(
     payload: G,
     count: u32,
     memory: &mut [Row<G>],
-) -> G {
+) -> G
+    ensures { G.Group.mean result
+        ≡ sum_of G.Group.group (λ i. dealt_answer G.Group.group X.Expander.meaning X.Expander.meaning (length memory.old)
+        3000000000 (G.Group.mean payload) (root 0) (root 16) true (root 16) (place i)) count }
+{
     let last = deal_one(expander, 3000000000, payload, memory);
     evaluate_rows(expander, memory, last, count)
 }
@@ -140,7 +150,10 @@ impl<L: Checksum, R: Checksum> Checksum for Pair<L, R> {
 }
 
 // A seed's first four bytes, the highest first.
-fn seed_sum(s: Seed) -> u32 {
+fn seed_sum(s: Seed) -> u32
+    ensures { result ≡ ((slice_index s.bytes 0 * 256 + slice_index s.bytes 1) * 256 + slice_index s.bytes 2) * 256
+        + slice_index s.bytes 3 }
+{
     u32::from_be_bytes([s.bytes[0], s.bytes[1], s.bytes[2], s.bytes[3]])
 }
 

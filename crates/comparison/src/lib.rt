@@ -37,7 +37,7 @@ fn all_in_range(numbers: &[u32], width: u8) -> bool
 fn ask_key<G: Group>(width: u8, numbers: &[u32], rows: &Rows<G>) -> Result<(), Refusal>
     ensures { result ≡ asked_all width (list_all (is_in_range width) numbers.now) (length rows.now.rows.now) G.Group.group.count }
 {
-    Refusal::ask(width >= 1 && width <= 32, Refusal::KeyWidth)?;
+    Refusal::ask((1..=32).contains(&width), Refusal::KeyWidth)?;
     Refusal::ask(all_in_range(numbers, width), Refusal::KeyRange)?;
     Refusal::ask(rows.count() == width as usize, Refusal::KeyRows)?;
     Refusal::ask(G::words() <= 8, Refusal::KeyWords)

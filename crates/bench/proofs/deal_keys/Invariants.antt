@@ -10,5 +10,4 @@ invariant-loop-i g l =
     let n = length l.initial.memory in
     let p = m.mean l.payload in
     let s = start m.group (root 0) (root 16) in
-    (length l.memory ≡ n)
-    × (m.mean l.all ≡ sum_of m.group (λ i. dealt_last x m.group p (place i) n s) l.i)
+    m.mean l.all ≡ sum_of m.group (λ i. dealt_last x m.group p (place i) n s) l.i

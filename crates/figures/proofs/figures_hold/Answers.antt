@@ -1,6 +1,5 @@
-use Rattle.std.proofs.Common.{refl}
 use Rattle.figures.proofs.Figures.{figures_hold}
 use Rattle.figures.proofs.figures_hold.Goals as goal
 
-pub returns : goal.returns
-returns c = record { hold = figures_hold; count = refl }
+pub returns-clause-hold : goal.returns-clause-hold
+returns-clause-hold c = figures_hold

@@ -1,11 +1,8 @@
 use Rattle.shares.proofs.Splits as splits
-use Rattle.shares.proofs.Xors.{flags_split}
 use Rattle.shares.proofs.splits_join.Goals as goal
 
-pub returns : goal.returns
-returns g c = record {
-  numbers = splits.numbers_split;
-  flags = flags_split;
-  elements = splits.elements_split g.G.Group.group;
-  held = splits.held_is_plain;
-}
+pub returns-clause-numbers : goal.returns-clause-numbers
+returns-clause-numbers g c = splits.numbers_split
+
+pub returns-clause-held : goal.returns-clause-held
+returns-clause-held g c = splits.held_is_plain
