@@ -1,13 +1,10 @@
 -- What the questions say where they are answered, and the first no otherwise.
-use Rattle.std.proofs.Common.{◌≡◌, ℕ, zero, suc, ◌≤◌, Bool, true, false, cond, leb, List, [], ◌∷◌, ◌++◌, length, get_or, Ok, Err, Result, refl, ap, ◌∙◌, arith}
-use Rattle.std.proofs.lemmas.Bool.Decides.{nat_tests}
+use Rattle.std.proofs.Common.{◌≡◌, ℕ, Bool, true, false, cond, List, [], ◌∷◌, ◌++◌, Ok, Err, Result, refl, ap, ◌∙◌, arith, sym}
 use Rattle.refusal.specs.declared.Refusal.{Refusal}
-use Rattle.refusal.specs.declared.Refusal.TheVariants.{DealRoom}
 use Rattle.refusal.specs.Questions.{answered, asked}
+use Rattle.refusal.proofs.Answered.{refused_alike, answered_alike}
 use Rattle.plan.specs.Plans.{Planned}
-use Rattle.plan.specs.Questions.{within, plan_asks}
-use Rattle.dealer.specs.Lengths.{Allowed}
-use Rattle.dealer.proofs.Shorts.{and_both}
+use Rattle.plan.specs.Questions.{plan_asks}
 
 -- whether all questions are answered yes, or the first no
 abbrev pub passed : List (Bool × Refusal) → Result (Unit {0}) Refusal
@@ -35,35 +32,23 @@ pub no_more : {Y : Type 0} (qs rs : List (Bool × Refusal)) (y : Y) (e : Refusal
 no_more [] rs y e h = absurd (let f : ◌≡◌ {A = ℕ} 0 1 = cc in omega arith)
 no_more (q ∷ qs) rs y e h = no q.0 q.1 (passed qs) (answered (qs ++ rs) y) e (λ g. no_more qs rs y e g) h
 
-pub asked_yes : (b : Bool) (e : Refusal) → Ok tt ≡ asked b e → b ≡ true
-asked_yes true e h = refl
-asked_yes false e h = absurd (let f : ◌≡◌ {A = ℕ} 0 1 = cc in omega arith)
-
 pub asked_no : (b : Bool) (e r : Refusal) → Err r ≡ asked b e → (b ≡ false) × (r ≡ e)
 asked_no true e r h = absurd (let f : ◌≡◌ {A = ℕ} 0 1 = cc in omega arith)
 asked_no false e r h = (refl, cc)
 
-bounds : (low high x : ℕ) → within low high x ≡ true → (low ≤ x) × (x ≤ high)
-bounds low high x h =
-    let t = and_both (leb low x) (leb x high) h in
-    let a = t.0 in
-    let b = t.1 in
-    (grind (arith, nat_tests), grind (arith, nat_tests))
+-- what is answered is what was to be
+pub answer_is : {Y : Type 0} (qs : List (Bool × Refusal)) (y z : Y) → answered qs y ≡ Ok z → y ≡ z
+answer_is [] y z h = cc
+answer_is (q ∷ qs) y z h = answer_is qs y z (yes q.0 q.1 (answered qs y) z h).1
 
--- every question was answered yes
-all_yes : (qs : List (Bool × Refusal)) (i : ℕ) → passed qs ≡ Ok tt → (get_or qs i (true, DealRoom)).0 ≡ true
-all_yes [] i h = refl
-all_yes (q ∷ qs) zero h = (yes q.0 q.1 (passed qs) tt h).0
-all_yes (q ∷ qs) (suc i) h = all_yes qs i (yes q.0 q.1 (passed qs) tt h).1
+-- the plan that passed is the plan that was given; its questions were answered, or the first no stands
+module _ (p : Planned) (b words : ℕ) where
+  pub same_plan : (q : Planned) → Ok q ≡ answered (plan_asks p b words) p → p ≡ q
+  same_plan q h = answer_is (plan_asks p b words) p q (sym h)
 
-pub allowed : (p : Planned) (b w : ℕ) → passed (plan_asks p b w) ≡ Ok tt → Allowed p
-allowed p b w h =
-    let width = bounds 1 32 p.width (all_yes (plan_asks p b w) 0 h) in
-    let counts = and_both (within 1 16 (length p.owners)) (within 1 32 (length p.rows)) (all_yes (plan_asks p b w) 1 h) in
-    record {
-      least = width.0;
-      most = width.1;
-      inputs = (bounds 1 16 (length p.owners) counts.0).1;
-      gates = (bounds 1 32 (length p.rows) counts.1).1;
-      fields = all_yes (plan_asks p b w) 4 h;
-    }
+  pub plan_passed : (q : Planned) → Ok q ≡ answered (plan_asks p b words) p → passed (plan_asks q b words) ≡ Ok tt
+  plan_passed q h =
+      ap (λ r. passed (plan_asks r b words)) (sym (same_plan q h)) ∙ answered_alike (plan_asks p b words) p q tt (sym h)
+
+  pub plan_refused : (e : Refusal) → Err e ≡ answered (plan_asks p b words) p → passed (plan_asks p b words) ≡ Err e
+  plan_refused e h = refused_alike (plan_asks p b words) p tt e (sym h)

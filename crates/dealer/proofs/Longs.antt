@@ -11,8 +11,8 @@ use Rattle.dealing.specs.declared.Descent.{Descent}
 use Rattle.dealing.specs.Dealing.{start, dealt_rows, next_at}
 use Rattle.evaluation.specs.Evaluation.{bit_at}
 use Rattle.plan.specs.declared.PlanRow.{PlanRow}
-use Rattle.plan.specs.declared.GateBody.{GateBody}
-use Rattle.plan.specs.declared.GateBody.TheVariants.{Sum, Scale, Product, Piece, Flag, Shift, SignedShift, Xor}
+use Rattle.plan.specs.Gates.{GateBody}
+use Rattle.plan.specs.declared.gates.Gate.TheVariants.{Sum, Scale, Product, Piece, Flag, Shift, SignedShift, Xor}
 use Rattle.plan.specs.Plans.{Planned, is_input, row_at}
 use Rattle.layout.specs.Bytes.{joined}
 use Rattle.layout.specs.Keys.{Compared, compared_bytes, word_bytes, flag_bytes, quad_bytes}

@@ -2,11 +2,14 @@
 use Rattle.std.proofs.Common.{◌≡◌, ℕ, zero, suc, ◌+◌, ◌-◌, ◌*◌, ◌<◌, ◌≤◌, Bool, true, false, cond, ◌&&◌, eqb, ltb, leb, List, [], ◌∷◌, length, get_or, refl, ap, add-one, arith}
 use Rattle.std.proofs.lemmas.Bool.Decides.{nat_tests}
 use Rattle.plan.specs.declared.PlanRow.{PlanRow}
-use Rattle.plan.specs.declared.GateBody.{GateBody}
-use Rattle.plan.specs.declared.GateBody.TheVariants.{Sum, Scale, Product, Piece, Flag, Shift, SignedShift, Xor}
-use Rattle.plan.specs.Plans.{Planned, wires, is_input, row_at, no_row}
+use Rattle.plan.specs.Gates.{GateBody}
+use Rattle.plan.specs.declared.gates.Gate.TheVariants.{Sum, Scale, Product, Piece, Flag, Shift, SignedShift, Xor}
+use Rattle.plan.specs.declared.PlanWire.TheVariants.{Input, Gate}
+use Rattle.plan.specs.Plans.{Planned, wires, is_input, row_at, wire_at, no_row}
 use Rattle.plan.specs.Questions.{fields_fit, all_fields_fit, shift_fits}
-use Rattle.dealer.specs.Lengths.{Allowed, rest_length, body_length, lengths_below, place}
+use Rattle.plan.specs.Allowed.{Allowed}
+use Rattle.dealer.specs.Book.{WireFits}
+use Rattle.dealer.specs.Lengths.{rest_length, body_length, lengths_below, place}
 
 pub and_both : (a b : Bool) → (a && b) ≡ true → (a ≡ true) × (b ≡ true)
 and_both true b h = (refl, h)
@@ -17,6 +20,14 @@ pub fields_at : (n : ℕ) (rows : List PlanRow) (i : ℕ) → all_fields_fit n r
 fields_at n [] i h = refl
 fields_at n (r ∷ rs) zero h = (and_both _ _ h).0
 fields_at n (r ∷ rs) (suc i) h = fields_at n rs i (and_both _ _ h).1
+
+-- the rows of an allowed plan fit
+pub wire_fits : (p : Planned) (k : ℕ) → Allowed p → WireFits p.width (wire_at p k)
+wire_fits p k a = pick (is_input p k)
+  where
+    pick : (i : Bool) → WireFits p.width (cond i (Input (get_or p.owners k 0)) (Gate (row_at p k)))
+    pick true = tt
+    pick false = fields_at p.width p.rows (k - length p.owners) a.fields
 
 shift_below : (n s : ℕ) → shift_fits n s ≡ true → s < n
 shift_below n s h = let t = (and_both (leb 1 s) (ltb s n) h).1 in grind (arith, nat_tests)

@@ -9,7 +9,8 @@ use Rattle.plan.specs.Plans.{wires}
 use Rattle.plan.specs.Questions.{plan_asks}
 use Rattle.layout.specs.Bytes.{joined}
 use Rattle.layout.specs.Books.{header_bytes, entry_bytes}
-use Rattle.buffers.specs.Forms.{Put}
+use Rattle.buffers.specs.declared.Writer.{Writer}
+use Rattle.buffers.specs.Forms.{put_at, Put}
 use Rattle.buffers.proofs.Puts.{put_at_start}
 use Rattle.dealer.specs.Lengths.{place, entry}
 use Rattle.dealer.specs.Book.{Order, header, header_of, dealt_body, dealt_length, dealt_book, written, dealt}
@@ -70,15 +71,20 @@ module _ (x : Expansion) (o : Order) where
         ∙ ap (λ b. cond b (Ok (dealt_length x o)) (Err DealRoom)) t))
 
     -- a book that was written
-    pub made_book : (after : List ℕ) (long end : ℕ) → long ≡ place o.plan o.box (wires o.plan) → long ≤ length out
-        → passed asks ≡ Ok tt → Put out 0 (parts long) after end → (Ok long, after) ≡ dealt x o out
-    made_book after long end e h ok p =
+    pub made_book : (w w1 : Writer) (long : ℕ) → w.out.now ≡ out → w.at ≡ 0 → long ≡ place o.plan o.box (wires o.plan)
+        → long ≤ length out → passed asks ≡ Ok tt → Put w (parts long) w1 → (Ok long, w1.out.now) ≡ dealt x o out
+    made_book w w1 long wo wa e h ok p =
         let l : long ≡ dealt_length x o = e ∙ length_is in
         let t : leb (dealt_length x o) (length out) ≡ true = grind (arith, nat_tests) in
-        let w : length (parts long) ≡ dealt_length x o = parts_long long ∙ length_is in
-        let is : after ≡ dealt_book x o ++ drop (dealt_length x o) out =
-        p.after ∙ put_at_start out (parts long) ∙ (λ i. parts_are long l i ++ drop (w i) out) in
+        let z : length (parts long) ≡ dealt_length x o = parts_long long ∙ length_is in
+        let is : w1.out.now ≡ dealt_book x o ++ drop (dealt_length x o) out =
+        p.after ∙ (λ i. put_at (wo i) (wa i) (parts long)) ∙ put_at_start out (parts long)
+        ∙ (λ i. parts_are long l i ++ drop (z i) out) in
         (λ i. (Ok (l i), is i))
         ∙ sym (ap (answer out)
         (more_asked asks room (dealt_length x o) ok
         ∙ ap (λ b. cond b (Ok (dealt_length x o)) (Err DealRoom)) t))
+
+-- what the buffer holds in the end
+pub left_as : {after now : List ℕ} {r : Result ℕ Refusal} {d : Result ℕ Refusal × List ℕ} → after ≡ now → (r, now) ≡ d → (r, after) ≡ d
+left_as {r} e h = ap (λ o. (r, o)) e ∙ h

@@ -1,11 +1,13 @@
 -- The book that a dealer writes for a box, and what a deal answers and leaves.
-use Rattle.std.specs.Prelude.{ℕ, Bool, cond, List, [], ◌∷◌, ◌++◌, length, drop, Some, None, Ok, Err, Option, Result, ◌==◌, nat_le, slice_index}
+use Rattle.std.specs.Prelude.{◌≡◌, ℕ, Bool, true, cond, List, [], ◌∷◌, ◌++◌, length, drop, Some, None, Ok, Err, Option, Result, ◌==◌, nat_le, slice_index}
 use Rattle.refusal.specs.declared.Refusal.{Refusal}
 use Rattle.refusal.specs.declared.Refusal.TheVariants.{DealRoom}
 use Rattle.refusal.specs.Questions.{answered}
 use Rattle.expander.specs.Meaning.{Expansion}
+use Rattle.plan.specs.declared.PlanWire.{PlanWire}
+use Rattle.plan.specs.declared.PlanWire.TheVariants.{Input, Gate}
 use Rattle.plan.specs.Plans.{Planned, is_input, row_at, words_of, words_before}
-use Rattle.plan.specs.Questions.{plan_asks}
+use Rattle.plan.specs.Questions.{fields_fit, plan_asks}
 use Rattle.layout.specs.Bytes.{front}
 use Rattle.layout.specs.Wires.{Wire, input, gate, wire_bytes}
 use Rattle.layout.specs.Books.{Header, book_length, laid_out}
@@ -40,6 +42,18 @@ when given m = cond given (Some m) None
 -- the random words of the gate at wire k
 abbrev pub gate_words : Order → ℕ → List ℕ
 gate_words o k = front (words_of (row_at o.plan k).body) (drop (words_before o.plan k) o.words)
+
+-- what the book of box b says of a wire with the mask m, from its own random words w on, for the table of masks ms:
+-- an input's mask to its owner only, a gate's where it is shown
+module _ (x : Expansion) (n : ℕ) (one : Bool) (ms : List ℕ) (b m : ℕ) (w : List ℕ) where
+  abbrev pub wire_for : PlanWire → Wire
+  wire_for (Input owner) = input owner (when (owner == b) m)
+  wire_for (Gate row) = gate (when row.shown m) (dealt_gate x n one ms (front (words_of row.body) w) row.body)
+
+-- a gate's fields are allowed at width n
+abbrev pub WireFits : ℕ → PlanWire → Type 0
+WireFits n (Input owner) = Unit {0}
+WireFits n (Gate row) = fields_fit n row.body ≡ true
 
 module _ (x : Expansion) (o : Order) where
   -- what the book says of wire k: an input's mask to its owner only, a gate's where it is shown

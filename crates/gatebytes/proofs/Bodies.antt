@@ -1,5 +1,5 @@
 -- A gate's bytes by what is written: before the key, and the key by the gate's own definition.
-use Rattle.std.proofs.Common.{◌≡◌, ℕ, Bool, true, false, ◌&&◌, List, [], ◌∷◌, ◌++◌, get_or, drop, Option, sym, refl, ap, ◌∙◌, append_assoc, arith}
+use Rattle.std.proofs.Common.{◌≡◌, ℕ, Bool, true, false, ◌&&◌, List, [], ◌∷◌, ◌++◌, get_or, Option, sym, refl, ap, ◌∙◌, append_assoc, ◌⊎◌, inl, inr}
 use Rattle.stored.specs.Forms.{four_bytes}
 use Rattle.expander.specs.Meaning.{Expansion}
 use Rattle.key.specs.declared.BoxNumber.{BoxNumber}
@@ -8,59 +8,57 @@ use Rattle.gatekeys.specs.declared.ranges.Interval.{Interval}
 use Rattle.gatekeys.specs.declared.ranges.Shift as range
 use Rattle.gatekeys.specs.Parameters.{interval_view, shift_view}
 use Rattle.plan.specs.Plans.{words_of}
-use Rattle.plan.specs.declared.GateBody.{GateBody}
-use Rattle.plan.specs.declared.GateBody.TheVariants.{Sum, Scale, Product, Piece, Flag, Shift, SignedShift, Xor}
+use Rattle.plan.specs.Gates.{GateBody}
+use Rattle.plan.specs.declared.gates.Gate.TheVariants.{Sum, Scale, Product, Piece, Flag, Shift, SignedShift, Xor}
 use Rattle.layout.specs.Bytes.{front}
 use Rattle.layout.specs.Wires.{gate, wire_bytes, gate_key_bytes, mask_bytes, given}
-use Rattle.buffers.specs.Forms.{Put, Room}
-use Rattle.buffers.proofs.Puts.{put_as, put_none}
 use Rattle.gatebytes.specs.Dealt.{dealt_gate}
 use Rattle.gatebytes.specs.Heads.{before_key}
+use Rattle.gates.specs.Piece.{dealt_piece_key, piece_rows}
+use Rattle.gates.specs.Flag.{dealt_flag_key, flag_rows}
+use Rattle.layout.specs.Keys.{quad_bytes, flag_bytes}
 use Rattle.gatebytes.specs.Keyed.{interval_key_bytes, shift_key_bytes, piece_bytes, flag_gate_bytes, shift_gate_bytes}
 
 pub and_left : (a b : Bool) → (a && b) ≡ true → a ≡ true
 and_left true b h = refl
 and_left false b h = h
 
--- the key that each arm writes is the gate's key: of a gate `body` for the masks ms, after so many used words
-module _ (x : Expansion) (b : BoxNumber) (n : ℕ) (ms words : List ℕ) (used : ℕ) where
+-- the key that each arm writes is the gate's key: of a gate `body` for the masks ms, from its own random words on
+module _ (x : Expansion) (b : BoxNumber) (n : ℕ) (ms words : List ℕ) where
   abbrev pub keyed : GateBody → List ℕ
-  keyed body = gate_key_bytes (dealt_gate x n (is_one b) ms (front (words_of body) (drop used words)) body)
+  keyed body = gate_key_bytes (dealt_gate x n (is_one b) ms (front (words_of body) words) body)
 
   pub piece_is : (i : Interval) (r : ℕ) (w : List ℕ) (a p q : ℕ) (c : List ℕ) (body : GateBody) → body ≡ Piece a p q c
-      → interval_view i ≡ (n, p, q) → r ≡ get_or ms a 0 → w ≡ front 14 (drop used words) → piece_bytes x b i r c w ≡ keyed body
+      → interval_view i ≡ (n, p, q) → r ≡ get_or ms a 0 → w ≡ front 14 words →
+      interval_key_bytes quad_bytes (dealt_piece_key x b i r c w n) (piece_rows x i r c w n) ≡ keyed body
   unfolding interval_key_bytes
   piece_is i r w a p q c body is e f h =
-      (λ j. piece_bytes x b i (f j) c (h j))
-      ∙ (λ j. gate_key_bytes (dealt_gate x (e j).0 (is_one b) ms (front 14 (drop used words)) (Piece a (e j).1 (e j).2 c)))
+      ap (λ m. interval_key_bytes quad_bytes (dealt_piece_key x b i r c w m) (piece_rows x i r c w m)) (sym (ap (λ v. v.0) e))
+      ∙ (λ j. piece_bytes x b i (f j) c (h j))
+      ∙ (λ j. gate_key_bytes (dealt_gate x (e j).0 (is_one b) ms (front 14 words) (Piece a (e j).1 (e j).2 c)))
       ∙ ap keyed (sym is)
 
   pub flag_is : (i : Interval) (r : ℕ) (w : List ℕ) (a p q t : ℕ) (body : GateBody) → body ≡ Flag a p q t
-      → interval_view i ≡ (n, p, q) → r ≡ get_or ms a 0 → w ≡ front 8 (drop used words) → flag_gate_bytes x b i r t w ≡ keyed body
+      → interval_view i ≡ (n, p, q) → r ≡ get_or ms a 0 → w ≡ front 8 words →
+      interval_key_bytes flag_bytes (dealt_flag_key x b i r t w n) (flag_rows x i r t w n) ≡ keyed body
   unfolding interval_key_bytes
   flag_is i r w a p q t body is e f h =
-      (λ j. flag_gate_bytes x b i (f j) t (h j))
-      ∙ (λ j. gate_key_bytes (dealt_gate x (e j).0 (is_one b) ms (front 8 (drop used words)) (Flag a (e j).1 (e j).2 t)))
+      ap (λ m. interval_key_bytes flag_bytes (dealt_flag_key x b i r t w m) (flag_rows x i r t w m)) (sym (ap (λ v. v.0) e))
+      ∙ (λ j. flag_gate_bytes x b i (f j) t (h j))
+      ∙ (λ j. gate_key_bytes (dealt_gate x (e j).0 (is_one b) ms (front 8 words) (Flag a (e j).1 (e j).2 t)))
       ∙ ap keyed (sym is)
 
-  shift_key_is : (v : range.Shift) (r : ℕ) (w : List ℕ) (a s : ℕ) → shift_view v ≡ (n, s) → r ≡ get_or ms a 0 → w ≡ front 10 (drop used words)
+  shift_key_is : (v : range.Shift) (r : ℕ) (w : List ℕ) (a s : ℕ) → shift_view v ≡ (n, s) → r ≡ get_or ms a 0 → w ≡ front 10 words
       → shift_gate_bytes x b v r w ≡ keyed (Shift a s)
   unfolding shift_key_bytes
   shift_key_is v r w a s e f h =
       (λ j. shift_gate_bytes x b v (f j) (h j))
-      ∙ (λ j. gate_key_bytes (dealt_gate x (e j).0 (is_one b) ms (front 10 (drop used words)) (Shift a (e j).1)))
+      ∙ (λ j. gate_key_bytes (dealt_gate x (e j).0 (is_one b) ms (front 10 words) (Shift a (e j).1)))
 
-  pub shift_is : (v : range.Shift) (r : ℕ) (w : List ℕ) (a s : ℕ) (body : GateBody) → body ≡ Shift a s
-      → shift_view v ≡ (n, s) → r ≡ get_or ms a 0 → w ≡ front 10 (drop used words) → shift_gate_bytes x b v r w ≡ keyed body
-  shift_is v r w a s body is e f h = shift_key_is v r w a s e f h ∙ ap keyed (sym is)
-
-  pub signed_is : (v : range.Shift) (r : ℕ) (w : List ℕ) (a s : ℕ) (body : GateBody) → body ≡ SignedShift a s
-      → shift_view v ≡ (n, s) → r ≡ get_or ms a 0 → w ≡ front 10 (drop used words) → shift_gate_bytes x b v r w ≡ keyed body
-  signed_is v r w a s body is e f h = shift_key_is v r w a s e f h ∙ ap keyed (sym is)
-
-  -- a gate with no key: nothing is written
-  pub no_key : (out : List ℕ) (at : ℕ) (body : GateBody) → [] ≡ keyed body → Room out at (keyed body) → Put out at (keyed body) out at
-  no_key out at body e r = let f = r.fits in put_as e (put_none out at (omega arith))
+  pub shift_is : (v : range.Shift) (r : ℕ) (w : List ℕ) (a s : ℕ) (body : GateBody) → (body ≡ Shift a s) ⊎ (body ≡ SignedShift a s)
+      → shift_view v ≡ (n, s) → r ≡ get_or ms a 0 → w ≡ front 10 words → shift_gate_bytes x b v r w ≡ keyed body
+  shift_is v r w a s body (inl is) e f h = shift_key_is v r w a s e f h ∙ ap keyed (sym is)
+  shift_is v r w a s body (inr is) e f h = shift_key_is v r w a s e f h ∙ ap keyed (sym is)
 
 module _ (x : Expansion) (n : ℕ) (one : Bool) (ms w : List ℕ) (shown : Option ℕ) where
   -- after a head: the mask, parameters and the key
@@ -69,11 +67,11 @@ module _ (x : Expansion) (n : ℕ) (one : Bool) (ms w : List ℕ) (shown : Optio
 
   -- what is written before the key, and the key, make the body
   pub body_is : (b : GateBody) → before_key shown b ++ gate_key_bytes (dealt_gate x n one ms w b) ≡ wire_bytes (gate shown (dealt_gate x n one ms w b))
-  body_is (Sum a b) = refl
+  body_is (Sum a b) = parted 1 a b (given shown) [] _
   body_is (Scale a c d) = parted 2 a 0 (given shown) (four_bytes c ++ four_bytes d) _
-  body_is (Product a b) = refl
+  body_is (Product a b) = parted 3 a b (given shown) [] _
   body_is (Piece a p q c) = parted 4 a 0 (given shown) (four_bytes p ++ four_bytes q) _
   body_is (Flag a p q t) = parted 5 a 0 (given shown) (four_bytes p ++ four_bytes q) _
   body_is (Shift a s) = parted 6 a 0 (given shown) (s ∷ []) _
   body_is (SignedShift a s) = parted 7 a 0 (given shown) (s ∷ []) _
-  body_is (Xor a b) = refl
+  body_is (Xor a b) = parted 8 a b (given shown) [] _

@@ -1,3 +1,4 @@
+pub mod Heads
 pub mod Asked
 pub mod Meanings
 pub mod Bodies

@@ -14,8 +14,8 @@ use Rattle.shares.specs.Shifts.{low_threshold, low_payload, high_threshold, high
 use Rattle.gates.specs.Piece.{piece_draws, payload_of}
 use Rattle.gates.specs.Flag.{flag_draws}
 use Rattle.gates.specs.Shift.{low_root0, low_root1, high_root0, high_root1}
-use Rattle.plan.specs.declared.GateBody.{GateBody}
-use Rattle.plan.specs.declared.GateBody.TheVariants.{Sum, Scale, Product, Piece, Flag, Shift, SignedShift, Xor}
+use Rattle.plan.specs.Gates.{GateBody}
+use Rattle.plan.specs.declared.gates.Gate.TheVariants.{Sum, Scale, Product, Piece, Flag, Shift, SignedShift, Xor}
 use Rattle.layout.specs.Keys.{Compared}
 use Rattle.layout.specs.Wires as wire
 use Rattle.layout.specs.Wires.{Gate}
@@ -50,14 +50,14 @@ module _ (x : Expansion) (n : ℕ) (one : Bool) where
   dealt_gate ms w (Piece a p q c) =
       let r : ℕ = slice_index ms a in
       let β : Quad = payload_of r c in
-      wire.piece a p q (compared quads n (threshold (2 ^ n) r) β (piece_draws w).root0 (piece_draws w).root1)
+      wire.piece a p q (compared quads n (threshold (2 ^ n) r) β (piece_draws w).roots.zero (piece_draws w).roots.one)
       (part_of_element quads one β (piece_draws w).payload1)
       (part_of_element quads one (extra quads (2 ^ n) r p q β) (piece_draws w).extra1)
       (part_of_number one (2 ^ n) (slice_index w 0 % 2 ^ n) (slice_index w 13))
   dealt_gate ms w (Flag a p q t) =
       let r : ℕ = slice_index ms a in
       let β : Residue (2 ^ 32) = flag_word t in
-      wire.flag a p q (compared flags n (threshold (2 ^ n) r) β (flag_draws w).root0 (flag_draws w).root1)
+      wire.flag a p q (compared flags n (threshold (2 ^ n) r) β (flag_draws w).roots.zero (flag_draws w).roots.one)
       (part_of_element flags one β (flag_draws w).payload1)
       (part_of_element flags one (extra flags (2 ^ n) r p q β) (flag_draws w).extra1)
       (part_of_flags one (slice_index w 0 % 2 ^ 32) (slice_index w 7))

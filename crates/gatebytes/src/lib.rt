@@ -1,97 +1,96 @@
 // The body of a gate in a book: what is said before the key, and the key as it is dealt.
 #![tactic(auto)]
 
-ghost use Rattle.std.specs.Prelude.{◌≡◌, ◌+◌, ◌^◌, ◌<◌, ◌≤◌, true, [], ◌∷◌, ◌++◌, drop};
+ghost use Rattle.std.specs.Prelude.{◌≡◌, ◌≤◌, true, ◌++◌, length};
 ghost use Rattle.stored.specs.Forms.{four_bytes};
 ghost use Rattle.key.specs.Rows.{is_one};
 ghost use Rattle.plan.specs.Plans.{words_of};
 ghost use Rattle.plan.specs.Questions.{fields_fit, interval_fits, shift_fits};
 ghost use Rattle.gatekeys.specs.Parameters.{interval_view, shift_view};
-ghost use Rattle.gates.specs.Product.{dealt_product};
+ghost use Rattle.gates.specs.Interval.{key_of, rows_of};
 ghost use Rattle.layout.specs.Bytes.{front};
-ghost use Rattle.layout.specs.Wires.{gate, wire_bytes, gate_key_bytes};
+ghost use Rattle.layout.specs.Wires.{gate, wire_bytes, gate_key_bytes, mask_bytes};
 ghost use Rattle.buffers.specs.Forms.{Put, Room};
 ghost use Rattle.gatebytes.specs.Dealt.{dealt_gate};
-ghost use Rattle.gatebytes.specs.Heads.{head_bytes, before_key};
-ghost use Rattle.gatebytes.specs.Keyed.{interval_key_bytes, shift_key_bytes, parts_bytes};
-ghost use Rattle.gatebytes.specs.Keyed.{piece_bytes, flag_gate_bytes, shift_gate_bytes};
+ghost use Rattle.gatebytes.specs.Heads.{head_bytes, places, parameters, before_key};
+ghost use Rattle.gatebytes.specs.Keyed.{shift_gate_bytes, HasRoom, IsPut};
 
-use buffers::{put, put_byte, put_number};
-use expander::{Expander, Seed};
-use gatekeys::{Interval, Shift};
-use gates::{Fresh, IntervalKey, ShiftKey, deal_flag, deal_piece, deal_product, deal_shift};
+use buffers::Writer;
+use expander::Expander;
+use gatekeys::{FlagGate, Interval, PieceGate, ProductGate, Shift, ShiftGate, Sign};
+use gates::{IntervalGate, Shared, ShiftRows, deal_interval, deal_product, deal_shift};
 use group::{Flags, Group, Quad, Word};
 use key::{BoxNumber, Row, Rows};
-use keyform::{put_element, put_key};
+use keyform::{put_interval, put_product, put_shift};
 use masking::Width;
 use masks::{mask_in, words_from};
 use plan::GateBody;
 use stored::StoredGroup;
+use tables::blank;
 
-// Kind, the wires that are read, and the mask where the gate is shown.
-fn put_head(out: &mut [u8], at: usize, kind: u8, a: u8, b: u8, shown: Option<u32>) -> usize
-    requires { Room out.old at (head_bytes kind a b shown) }
-    ensures { Put out.old at (head_bytes kind a b shown) out.new result }
+// A mask where it is given.
+pub fn put_mask(writer: &mut Writer, mask: Option<u32>)
+    requires { Room writer.old (mask_bytes mask) }
+    ensures { Put writer.old (mask_bytes mask) writer.new }
 {
-    match shown {
-        None => put(out, at, &[kind, a, b, 0]),
-        Some(mask) => {
-            let at = put(out, at, &[kind, a, b, 1]);
-            put_number(out, at, mask)
-        }
+    if let Some(mask) = mask {
+        writer.put_number(mask);
     }
 }
 
 // Two numbers.
-pub fn put_two(out: &mut [u8], at: usize, x: u32, y: u32) -> usize
-    requires { Room out.old at (four_bytes x ++ four_bytes y) }
-    ensures { Put out.old at (four_bytes x ++ four_bytes y) out.new result }
+pub fn put_two(writer: &mut Writer, x: u32, y: u32)
+    requires { Room writer.old (four_bytes x ++ four_bytes y) }
+    ensures { Put writer.old (four_bytes x ++ four_bytes y) writer.new }
 {
-    let at = put_number(out, at, x);
-    put_number(out, at, y)
+    writer.put_number(x);
+    writer.put_number(y);
 }
 
-// The head and two numbers; the head and a byte.
-fn put_numbered(
-    out: &mut [u8],
-    at: usize,
-    kind: u8,
-    a: u8,
-    shown: Option<u32>,
-    x: u32,
-    y: u32,
-) -> usize
-    requires { Room out.old at (head_bytes kind a 0 shown ++ (four_bytes x ++ four_bytes y)) }
-    ensures { Put out.old at (head_bytes kind a 0 shown ++ (four_bytes x ++ four_bytes y))
-        out.new result }
+// Kind, the wires that are read, and the mask where the gate is shown.
+fn put_head(writer: &mut Writer, kind: u8, a: u8, b: u8, shown: Option<u32>)
+    requires { Room writer.old (head_bytes kind a b shown) }
+    ensures { Put writer.old (head_bytes kind a b shown) writer.new }
 {
-    let at = put_head(out, at, kind, a, 0, shown);
-    put_two(out, at, x, y)
+    writer.put(&[kind, a, b, u8::from(shown.is_some())]);
+    put_mask(writer, shown);
 }
 
-fn put_stepped(out: &mut [u8], at: usize, kind: u8, a: u8, shown: Option<u32>, s: u8) -> usize
-    requires { Room out.old at (head_bytes kind a 0 shown ++ (s ∷ [])) }
-    ensures { Put out.old at (head_bytes kind a 0 shown ++ (s ∷ [])) out.new result }
+// The wires that a gate reads: the second place holds 0 where it reads one.
+fn places(body: GateBody) -> (u8, u8)
+    ensures { result ≡ places body }
 {
-    let at = put_head(out, at, kind, a, 0, shown);
-    put_byte(out, at, s)
+    match body {
+        GateBody::Sum { a, b } | GateBody::Product { a, b } | GateBody::Xor { a, b } => (a, b),
+        GateBody::Scale { a, .. }
+        | GateBody::Piece { a, .. }
+        | GateBody::Flag { a, .. }
+        | GateBody::Shift { a, .. }
+        | GateBody::SignedShift { a, .. } => (a, 0),
+    }
+}
+
+// The numbers that a gate has beside the wires that it reads.
+fn put_parameters(writer: &mut Writer, body: GateBody)
+    requires { Room writer.old (parameters body) }
+    ensures { Put writer.old (parameters body) writer.new }
+{
+    match body {
+        GateBody::Sum { .. } | GateBody::Product { .. } | GateBody::Xor { .. } => {}
+        GateBody::Scale { c, d, .. } => put_two(writer, c, d),
+        GateBody::Piece { p, q, .. } | GateBody::Flag { p, q, .. } => put_two(writer, p, q),
+        GateBody::Shift { s, .. } | GateBody::SignedShift { s, .. } => writer.put_byte(s),
+    }
 }
 
 // The head and the parameters.
-fn put_before_key(out: &mut [u8], at: usize, shown: Option<u32>, body: GateBody) -> usize
-    requires { Room out.old at (before_key shown body) }
-    ensures { Put out.old at (before_key shown body) out.new result }
+fn put_before_key(writer: &mut Writer, shown: Option<u32>, body: GateBody)
+    requires { Room writer.old (before_key shown body) }
+    ensures { Put writer.old (before_key shown body) writer.new }
 {
-    match body {
-        GateBody::Sum { a, b } => put_head(out, at, 1, a, b, shown),
-        GateBody::Scale { a, c, d } => put_numbered(out, at, 2, a, shown, c, d),
-        GateBody::Product { a, b } => put_head(out, at, 3, a, b, shown),
-        GateBody::Piece { a, p, q, .. } => put_numbered(out, at, 4, a, shown, p, q),
-        GateBody::Flag { a, p, q, .. } => put_numbered(out, at, 5, a, shown, p, q),
-        GateBody::Shift { a, s } => put_stepped(out, at, 6, a, shown, s),
-        GateBody::SignedShift { a, s } => put_stepped(out, at, 7, a, shown, s),
-        GateBody::Xor { a, b } => put_head(out, at, 8, a, b, shown),
-    }
+    let (a, b) = places(body);
+    put_head(writer, body.kind().number(), a, b, shown);
+    put_parameters(writer, body);
 }
 
 // Parameters that question 5 has allowed.
@@ -100,271 +99,143 @@ fn interval_of(width: Width, p: u32, q: u32) -> Interval
     requires { interval_fits width.bits p q ≡ true }
     ensures { interval_view result ≡ (width.bits, p, q) }
 {
-    match Interval::new(width, p, q) {
-        Ok(interval) => interval,
-        Err(_) => unreachable(),
-    }
+    let Ok(interval) = Interval::new(width, p, q) else {
+        unreachable()
+    };
+    interval
 }
 
 fn shift_of(width: Width, s: u8) -> Shift
     requires { shift_fits width.bits s ≡ true }
     ensures { shift_view result ≡ (width.bits, s) }
 {
-    match Shift::new(width, s) {
-        Ok(shift) => shift,
-        Err(_) => unreachable(),
+    let Ok(shift) = Shift::new(width, s) else {
+        unreachable()
+    };
+    shift
+}
+
+// What a dealer has for every gate of a book: the box that the book is for, the width, and the masks of all wires.
+#[derive(Drop)]
+pub struct Dealer<'a, X> {
+    pub expander: &'a X,
+    pub number: BoxNumber,
+    pub width: Width,
+    pub masks: &'a [u32; 48],
+}
+
+impl<'a, X: Expander> Dealer<'a, X> {
+    // The key of a gate on one interval. Its rows are dealt into this memory.
+    fn put_on_interval<G: Shared + StoredGroup, T: IntervalGate<G>>(
+        &self,
+        writer: &mut Writer,
+        gate: &T,
+        memory: &mut [Row<G>],
+    )
+        requires width { (T.deal gate.now).interval.width.bits ≡ self.now.width.bits }
+        requires memory { 32 ≤ length memory.old }
+        requires room { let n = self.now.width.bits in let d = T.deal gate.now in
+            HasRoom G.StoredGroup.form G.Group.mean writer.old
+            (key_of X.Expander.meaning G.Group.group G.Group.mean d self.now.number (T.out_part gate.now (is_one self.now.number)) n)
+            (rows_of X.Expander.meaning G.Group.group G.Group.mean d n) }
+        ensures { let n = self.now.width.bits in let d = T.deal gate.now in
+            IsPut G.StoredGroup.form G.Group.mean writer.old
+            (key_of X.Expander.meaning G.Group.group G.Group.mean d self.now.number (T.out_part gate.now (is_one self.now.number)) n)
+            (rows_of X.Expander.meaning G.Group.group G.Group.mean d n) writer.new }
+    {
+        let mut rows = Rows::over(&mut memory[0..self.width.bits() as usize]);
+        let Ok(key) = deal_interval(self.expander, self.number, gate, &mut rows) else {
+            unreachable()
+        };
+        put_interval(writer, key.parts(), rows.as_slice());
     }
-}
 
-// Keys.
-
-fn put_product(
-    out: &mut [u8],
-    at: usize,
-    number: BoxNumber,
-    width: Width,
-    mask_a: u32,
-    mask_b: u32,
-    words: &[u64; 4],
-) -> usize
-    requires { Room out.old at (parts_bytes (dealt_product number width mask_a mask_b words.now)) }
-    ensures { Put out.old at (parts_bytes (dealt_product number width mask_a mask_b words.now))
-        out.new result }
-{
-    let (a, b, c) = deal_product(number, width, mask_a, mask_b, words).parts();
-    let at = put_number(out, at, a);
-    put_two(out, at, b, c)
-}
-
-fn put_interval_key<G: StoredGroup>(
-    out: &mut [u8],
-    at: usize,
-    key: &Fresh<IntervalKey<G>>,
-    rows: &[Row<G>],
-) -> usize
-    requires { Room out.old at (interval_key_bytes G.StoredGroup.form key.now.key rows.now) }
-    ensures { Put out.old at (interval_key_bytes G.StoredGroup.form key.now.key rows.now)
-        out.new result }
-{
-    let at = put_key(out, at, key.root(), rows, key.last());
-    let at = put_element(out, at, key.payload());
-    let at = put_element(out, at, key.extra());
-    put_number(out, at, key.out())
-}
-
-fn put_shift_key<G: StoredGroup>(
-    out: &mut [u8],
-    at: usize,
-    key: &Fresh<ShiftKey<G>>,
-    low: &[Row<G>],
-    high: &[Row<G>],
-) -> usize
-    requires { Room out.old at (shift_key_bytes G.StoredGroup.form key.now.key low.now high.now) }
-    ensures { Put out.old at
-        (shift_key_bytes G.StoredGroup.form key.now.key low.now high.now) out.new result }
-{
-    let at = put_key(out, at, key.low_root(), low, key.low_last());
-    let at = put_key(out, at, key.high_root(), high, key.high_last());
-    put_number(out, at, key.rest())
-}
-
-// A row before it is dealt.
-fn blank<G: Group>() -> Row<G> {
-    Row {
-        word: Seed { bytes: [0; 16] },
-        left: false,
-        right: false,
-        element: G::zero(),
+    fn put_shift(&self, writer: &mut Writer, gate: &ShiftGate)
+        requires { Room writer.old (shift_gate_bytes X.Expander.meaning self.now.number
+            gate.now.shift gate.now.mask gate.now.words) }
+        ensures { Put writer.old (shift_gate_bytes X.Expander.meaning self.now.number
+            gate.now.shift gate.now.mask gate.now.words) writer.new }
+    {
+        let mut low = [blank::<Word>(); 32];
+        let mut high = [blank::<Word>(); 32];
+        let mut rows = ShiftRows {
+            low: Rows::over(&mut low[0..gate.shift.by() as usize]),
+            high: Rows::over(&mut high[0..gate.shift.width().bits() as usize]),
+        };
+        let Ok(key) = deal_shift(self.expander, self.number, gate, &mut rows) else {
+            unreachable()
+        };
+        put_shift(
+            writer,
+            key.parts(),
+            rows.low.as_slice(),
+            rows.high.as_slice(),
+        );
     }
-}
 
-fn put_piece<X: Expander>(
-    out: &mut [u8],
-    at: usize,
-    expander: &X,
-    number: BoxNumber,
-    interval: Interval,
-    mask: u32,
-    coefficients: &[u32; 4],
-    words: &[u64; 14],
-) -> usize
-    requires { Room out.old at (piece_bytes X.Expander.meaning number interval mask coefficients.now words.now) }
-    ensures { Put out.old at
-        (piece_bytes X.Expander.meaning number interval mask coefficients.now words.now)
-        out.new result }
-{
-    let mut memory = [blank::<Quad>(); 32];
-    let mut rows = Rows::over(&mut memory[0..interval.width().bits() as usize]);
-    match deal_piece(
-        expander,
-        number,
-        interval,
-        mask,
-        coefficients,
-        words,
-        &mut rows,
-    ) {
-        Ok(key) => put_interval_key(out, at, &key, rows.as_slice()),
-        Err(_) => unreachable(),
-    }
-}
-
-fn put_flag<X: Expander>(
-    out: &mut [u8],
-    at: usize,
-    expander: &X,
-    number: BoxNumber,
-    interval: Interval,
-    mask: u32,
-    pattern: u32,
-    words: &[u64; 8],
-) -> usize
-    requires { Room out.old at (flag_gate_bytes X.Expander.meaning number interval mask pattern words.now) }
-    ensures { Put out.old at
-        (flag_gate_bytes X.Expander.meaning number interval mask pattern words.now) out.new result }
-{
-    let mut memory = [blank::<Flags>(); 32];
-    let mut rows = Rows::over(&mut memory[0..interval.width().bits() as usize]);
-    match deal_flag(expander, number, interval, mask, pattern, words, &mut rows) {
-        Ok(key) => put_interval_key(out, at, &key, rows.as_slice()),
-        Err(_) => unreachable(),
-    }
-}
-
-fn put_shift<X: Expander>(
-    out: &mut [u8],
-    at: usize,
-    expander: &X,
-    number: BoxNumber,
-    shift: Shift,
-    mask: u32,
-    words: &[u64; 10],
-) -> usize
-    requires { Room out.old at (shift_gate_bytes X.Expander.meaning number shift mask words.now) }
-    ensures { Put out.old at (shift_gate_bytes X.Expander.meaning number shift mask words.now)
-        out.new result }
-{
-    let mut low_memory = [blank::<Word>(); 32];
-    let mut high_memory = [blank::<Word>(); 32];
-    let mut low = Rows::over(&mut low_memory[0..shift.by() as usize]);
-    let mut high = Rows::over(&mut high_memory[0..shift.width().bits() as usize]);
-    match deal_shift(expander, number, shift, mask, words, &mut low, &mut high) {
-        Ok(key) => put_shift_key(out, at, &key, low.as_slice(), high.as_slice()),
-        Err(_) => unreachable(),
-    }
-}
-
-// The key of a gate, for the masks of the wires that it reads; a local gate has none.
-fn put_gate_key<X: Expander>(
-    out: &mut [u8],
-    at: usize,
-    expander: &X,
-    number: BoxNumber,
-    width: Width,
-    masks: &[u32; 48],
-    words: &[u64],
-    used: usize,
-    body: GateBody,
-) -> usize
-    requires room { Room out.old at (gate_key_bytes
-        (dealt_gate X.Expander.meaning width.bits (is_one number) masks.now
-        (front (words_of body) (drop used words.now)) body)) }
-    requires fits { fields_fit width.bits body ≡ true }
-    requires few { used ≤ 1000 }
-    ensures { Put out.old at (gate_key_bytes
-        (dealt_gate X.Expander.meaning width.bits (is_one number) masks.now
-        (front (words_of body) (drop used words.now)) body)) out.new result }
-{
-    match body {
-        GateBody::Sum { .. } | GateBody::Scale { .. } | GateBody::Xor { .. } => at,
-        GateBody::Product { a, b } => {
-            let mask_a = mask_in(masks, a as usize);
-            let mask_b = mask_in(masks, b as usize);
-            put_product(
-                out,
-                at,
-                number,
-                width,
-                mask_a,
-                mask_b,
-                &words_from(words, used),
-            )
-        }
-        GateBody::Piece { a, p, q, c } => {
-            let mask = mask_in(masks, a as usize);
-            put_piece(
-                out,
-                at,
-                expander,
-                number,
-                interval_of(width, p, q),
-                mask,
-                &c,
-                &words_from(words, used),
-            )
-        }
-        GateBody::Flag { a, p, q, pattern } => {
-            let mask = mask_in(masks, a as usize);
-            put_flag(
-                out,
-                at,
-                expander,
-                number,
-                interval_of(width, p, q),
-                mask,
-                pattern,
-                &words_from(words, used),
-            )
-        }
-        GateBody::Shift { a, s } => {
-            let mask = mask_in(masks, a as usize);
-            put_shift(
-                out,
-                at,
-                expander,
-                number,
-                shift_of(width, s),
-                mask,
-                &words_from(words, used),
-            )
-        }
-        GateBody::SignedShift { a, s } => {
-            let mask = mask_in(masks, a as usize);
-            put_shift(
-                out,
-                at,
-                expander,
-                number,
-                shift_of(width, s),
-                mask,
-                &words_from(words, used),
-            )
+    // The key of a gate, for the masks of the wires that it reads, and from its own random words on; a local gate has none.
+    fn put_gate_key(&self, writer: &mut Writer, words: &[u64], body: GateBody)
+        requires room { Room writer.old (gate_key_bytes
+            (dealt_gate X.Expander.meaning self.now.width.bits (is_one self.now.number) self.now.masks.now
+            (front (words_of body) words.now) body)) }
+        requires fits { fields_fit self.now.width.bits body ≡ true }
+        ensures { Put writer.old (gate_key_bytes
+            (dealt_gate X.Expander.meaning self.now.width.bits (is_one self.now.number) self.now.masks.now
+            (front (words_of body) words.now) body)) writer.new }
+    {
+        match body {
+            GateBody::Sum { .. } | GateBody::Scale { .. } | GateBody::Xor { .. } => {}
+            GateBody::Product { a, b } => {
+                let gate = ProductGate {
+                    width: self.width,
+                    mask_a: mask_in(self.masks, a as usize),
+                    mask_b: mask_in(self.masks, b as usize),
+                    words: words_from(words),
+                };
+                put_product(writer, deal_product(self.number, &gate).parts());
+            }
+            GateBody::Piece { a, p, q, c } => {
+                let gate = PieceGate {
+                    interval: interval_of(self.width, p, q),
+                    mask: mask_in(self.masks, a as usize),
+                    coefficients: c,
+                    words: words_from(words),
+                };
+                self.put_on_interval(writer, &gate, &mut [blank::<Quad>(); 32]);
+            }
+            GateBody::Flag { a, p, q, pattern } => {
+                let gate = FlagGate {
+                    interval: interval_of(self.width, p, q),
+                    mask: mask_in(self.masks, a as usize),
+                    pattern,
+                    words: words_from(words),
+                };
+                self.put_on_interval(writer, &gate, &mut [blank::<Flags>(); 32]);
+            }
+            // The key of a shift is the same for either sign.
+            GateBody::Shift { a, s } | GateBody::SignedShift { a, s } => {
+                let gate = ShiftGate {
+                    sign: Sign::Unsigned,
+                    shift: shift_of(self.width, s),
+                    mask: mask_in(self.masks, a as usize),
+                    words: words_from(words),
+                };
+                self.put_shift(writer, &gate);
+            }
         }
     }
-}
 
-// The body of a gate, whose mask is given where it is shown.
-pub fn put_gate<X: Expander>(
-    out: &mut [u8],
-    at: usize,
-    expander: &X,
-    number: BoxNumber,
-    width: Width,
-    masks: &[u32; 48],
-    words: &[u64],
-    used: usize,
-    shown: Option<u32>,
-    body: GateBody,
-) -> usize
-    requires room { Room out.old at (wire_bytes (gate shown
-        (dealt_gate X.Expander.meaning width.bits (is_one number) masks.now
-        (front (words_of body) (drop used words.now)) body))) }
-    requires fits { fields_fit width.bits body ≡ true }
-    requires few { used ≤ 1000 }
-    ensures { Put out.old at (wire_bytes (gate shown
-        (dealt_gate X.Expander.meaning width.bits (is_one number) masks.now
-        (front (words_of body) (drop used words.now)) body))) out.new result }
-{
-    let at = put_before_key(out, at, shown, body);
-    put_gate_key(out, at, expander, number, width, masks, words, used, body)
+    // The body of a gate, whose mask is given where it is shown.
+    pub fn put_gate(&self, writer: &mut Writer, words: &[u64], shown: Option<u32>, body: GateBody)
+        requires room { Room writer.old (wire_bytes (gate shown
+            (dealt_gate X.Expander.meaning self.now.width.bits (is_one self.now.number) self.now.masks.now
+            (front (words_of body) words.now) body))) }
+        requires fits { fields_fit self.now.width.bits body ≡ true }
+        ensures { Put writer.old (wire_bytes (gate shown
+            (dealt_gate X.Expander.meaning self.now.width.bits (is_one self.now.number) self.now.masks.now
+            (front (words_of body) words.now) body))) writer.new }
+    {
+        put_before_key(writer, shown, body);
+        self.put_gate_key(writer, words, body);
+    }
 }

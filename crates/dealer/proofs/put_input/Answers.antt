@@ -1,8 +1,8 @@
-use Rattle.std.proofs.Common.{sym, ap}
-use Rattle.layout.specs.Wires.{input, wire_bytes}
-use Rattle.buffers.proofs.Puts.{then, put_as}
+use Rattle.buffers.proofs.Puts.{then, room_next}
 use Rattle.dealer.proofs.put_input.Goals as goal
 
-pub returns-in-Some : goal.returns-in-Some
-returns-in-Some c =
-    put_as (ap (λ m. wire_bytes (input c.args.owner m)) (sym c.in-Some.is)) (then c.put_byte-at.ensures c.put_number.ensures)
+pub put_mask-requires : goal.put_mask-requires
+put_mask-requires c = room_next _ c.put_byte.ensures c.requires
+
+pub returns : goal.returns
+returns c = then c.put_byte.ensures c.put_mask.ensures
