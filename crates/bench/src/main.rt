@@ -87,7 +87,7 @@ fn deal_keys<X: Expander, G: Group>(
         ≡ sum_of G.Group.group (λ i. dealt_last X.Expander.meaning G.Group.group (G.Group.mean payload) (place i)
         (length memory.old) (start G.Group.group (root 0) (root 16))) count }
 {
-    // Stays: a loop. A fold's closure would write to the memory at each turn, and a proof knows nothing after such calls.
+    // Stays: a fold was tried; its proof didn't close, since its closure writes to the memory at each turn.
     let mut all = G::zero();
     for i in 0..count {
         all = all.add(deal_one(expander, place(i), payload, memory));
