@@ -1,6 +1,6 @@
 -- Bytes of rows, cut into chunks of a row's size.
 use Rattle.std.proofs.Common.{◌≡◌, ℕ, zero, suc, ◌+◌, ◌*◌, ◌<◌, ◌≤◌, min, Bool, true, false, Option, Some, None, Decides, List, [], length, take, drop, sym, refl, ap, ◌∙◌, subst, suc-mul, zero-mul, arith, length-drop, drop-drop, option_map, get_or, ◌-◌, ◌/◌}
-use Rattle.std.proofs.Math.Nat.{mul-div_cancel, lt_of_mul-lt-mul_right, le_of_mul-le-mul_right}
+use Rattle.std.proofs.Math.Nat.{mul-div_cancel, le_of_mul-le-mul_right}
 use Rattle.std.proofs.lemmas.Bool.{both_ways}
 use Rattle.std.specs.Bool.{MatchBool}
 use Rattle.std.specs.Option.{IfSome, IsSomeAnd}

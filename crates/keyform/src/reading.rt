@@ -75,14 +75,11 @@ fn fill<G: StoredGroup>(bytes: &[u8], rows: &mut Rows<G>)
     ensures same { rows.new.rows.ghost_name ≡ rows.old.rows.ghost_name }
 {
     let size = row_size::<G>();
-    let mut at = 0;
+    let mut rest = bytes;
     for i in 0..rows.count() {
-        let end = at + size;
-        let Some(row) = read_row(&bytes[at..end]) else {
-            return;
-        };
-        rows.put(i, row);
-        at = end;
+        let (row, after) = rest.split_at(size);
+        rows.put(i, read_row(row).unwrap());
+        rest = after;
     }
 }
 
