@@ -1,6 +1,7 @@
 -- A question that is answered no or by what was read, and the most bytes that a slice has.
 use Rattle.std.proofs.Common.{◌≡◌, ℕ, Bool, true, false, Option, Some, None, MatchOption, is_some, Decides, refl}
 use Rattle.std.specs.Bool.{then_some}
+use Rattle.std.specs.Option.{IsSome}
 use Rattle.std.proofs.lemmas.Bool.{both_ways}
 
 pub decided_no : {P : Type 0} → (P → ⊥) → Decides false P
@@ -26,3 +27,8 @@ pub then_decided : {A N P : Type 0} (Q : A → Type 0) (b : Bool) (a : A) (o : O
     → Decides b P → (P → Q a) → (N → P) → MatchOption o (N → ⊥) Q
 then_decided Q true a o e d found back = rw e (found (d.0 refl))
 then_decided Q false a o e d found back = rw e (λ n. both_ways false refl (d.1 (back n)))
+
+-- what is there was read
+pub found_some : {A P : Type 0} (Q : A → Type 0) (o : Option A) → MatchOption o (P → ⊥) Q → P → IsSome o
+found_some Q None m p = absurd (m p)
+found_some Q (Some a) m p = refl

@@ -10,3 +10,4 @@ pub mod Ends
 pub mod Tails
 pub mod TwoKeys
 pub mod Threes
+pub mod Chunks

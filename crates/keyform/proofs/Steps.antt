@@ -1,5 +1,5 @@
 -- Bytes of a row in their parts, and bytes of rows one row at a time.
-use Rattle.std.proofs.Common.{◌≡◌, ℕ, suc, ◌+◌, ◌-◌, ◌<◌, ◌≤◌, min, Bool, true, false, List, [], ◌∷◌, ◌++◌, length, get_or, take, drop, set, sym, refl, ap, ◌∙◌, subst, append_assoc, append-nil, arith, lit≤, length-append, length-drop, take-append-drop, drop-drop, take_at, take-add, drop_at}
+use Rattle.std.proofs.Common.{◌≡◌, ℕ, suc, ◌+◌, ◌<◌, ◌≤◌, min, Bool, true, false, List, [], ◌∷◌, ◌++◌, length, get_or, take, drop, set, sym, refl, ap, ◌∙◌, subst, append_assoc, append-nil, arith, lit≤, length-append, take-append-drop, take_at, drop_at}
 use Rattle.std.proofs.lemmas.List.{drop_more, take_more_set}
 use Rattle.expander.specs.declared.Seed.{Seed}
 use Rattle.key.specs.declared.Row.{Row}
@@ -94,41 +94,14 @@ module _ {M : Type 0} (form : M → List ℕ) (z : ℕ) (sized : (a : M) → len
       → RowsIn form n rest → w ≡ 17 + z
   size_there m n w max rest e is few t = let f = (rows_first m n rest e t).0 in omega arith
 
-  pub room : (m n at w max : ℕ) (bytes : List ℕ) → n ≡ suc m → w ≡ min (17 + z) max → at ≤ length bytes
-      → RowsIn form n (drop at bytes)
-      → at + w ≤ length bytes
-  room m n at w max bytes e is h t = let f = (rows_first m n (drop at bytes) e t).0 in omega (arith, length-drop at bytes)
-
-  pub row_there : (m n at w max : ℕ) (bytes : List ℕ) → n ≡ suc m → w ≡ min (17 + z) max → length bytes ≤ max
-      → RowsIn form n (drop at bytes)
-      → RowIn form (take (at + w - at) (drop at bytes))
-  row_there m n at w max bytes e is few t =
-      let rest = drop at bytes in
-      let size : w ≡ 17 + z = size_there m n w max rest e is (omega (arith, length-drop at bytes)) t in
-      let i = (rows_first m n rest e t).1.0 in
-      let k : 17 + z ≡ at + w - at = omega arith in
-      record { row = i.row; same = i.same ∙ ap (λ v. take v rest) k }
-
-  pub rows_there : (m n at w max : ℕ) (bytes : List ℕ) → n ≡ suc m → w ≡ min (17 + z) max → length bytes ≤ max
-      → RowsIn form n (drop at bytes)
-      → RowsIn form m (drop (at + w) bytes)
-  rows_there m n at w max bytes e is few t =
-      let rest = drop at bytes in
-      let size : w ≡ 17 + z = size_there m n w max rest e is (omega (arith, length-drop at bytes)) t in
-      let s = (rows_first m n rest e t).1.1 in
-      record { rows = s.rows; count = s.count; same = s.same ∙ ap (λ v. drop v rest) (sym size) ∙ drop-drop w at bytes }
+  -- the row at the front of rows, and what follows it
+  pub front_row : (m n w max : ℕ) (rest : List ℕ) → n ≡ suc m → w ≡ min (17 + z) max → length rest ≤ max → RowsIn form n rest
+      → (w ≤ length rest) × (RowIn form (take w rest) × RowsIn form m (drop w rest))
+  front_row m n w max rest e is few t =
+      let size = size_there m n w max rest e is few t in
+      subst (λ v. (v ≤ length rest) × (RowIn form (take v rest) × RowsIn form m (drop v rest))) (sym size) (rows_first m n rest e t)
 
 module _ {M : Type 0} (form : M → List ℕ) where
-  -- a row at a place, then m rows
-  pub rows_here : (m n at w : ℕ) (bytes : List ℕ) → n ≡ suc m → RowIn form (take (at + w - at) (drop at bytes))
-      → RowsIn form m (drop (at + w) bytes)
-      → RowsIn form n (drop at bytes)
-  rows_here m n at w bytes e i t =
-      let k : at + w - at ≡ w = omega arith in
-      rows_more form m n w (drop at bytes) e
-      (record { row = i.row; same = i.same ∙ ap (λ v. take v (drop at bytes)) k })
-      (record { rows = t.rows; count = t.count; same = t.same ∙ sym (drop-drop w at bytes) })
-
   -- one row more at the end
   pub rows_push : (rows : List (Row M)) (r : Row M)
       → rows_bytes form (rows ++ r ∷ []) ≡ rows_bytes form rows ++ row_bytes form r
@@ -136,17 +109,15 @@ module _ {M : Type 0} (form : M → List ℕ) where
   rows_push (q ∷ qs) r = ap (λ t. row_bytes form q ++ t) (rows_push qs r)
       ∙ sym (append_assoc (row_bytes form q) (rows_bytes form qs) (row_bytes form r))
 
-  pub rows_put : (rows : List (Row M)) (i at w : ℕ) (row : Row M) (bytes : List ℕ) → i < length rows
-      → rows_bytes form (take i rows) ≡ take at bytes
-      → RowRead form (take (at + w - at) (drop at bytes)) row
-      → rows_bytes form (take (i + 1) (set rows i row)) ≡ take (at + w) bytes
-  rows_put rows i at w row bytes h e t =
-      let k : at + w - at ≡ w = omega arith in
-      ap (rows_bytes form) (take_more_set rows i row h)
-      ∙ rows_push (take i rows) row
-      ∙ ap (λ a. a ++ row_bytes form row) e
-      ∙ ap (λ a. take at bytes ++ a) (t.same ∙ ap (λ v. take v (drop at bytes)) k)
-      ∙ sym (take-add at w bytes)
+  pub rows_put : (rows : List (Row M)) (i w : ℕ) (row : Row M) (rest bytes : List ℕ) → i < length rows
+      → rows_bytes form (take i rows) ++ rest ≡ bytes → row_bytes form row ≡ take w rest
+      → rows_bytes form (take (i + 1) (set rows i row)) ++ drop w rest ≡ bytes
+  rows_put rows i w row rest bytes h e t =
+      ap (λ a. rows_bytes form a ++ drop w rest) (take_more_set rows i row h)
+      ∙ ap (λ a. a ++ drop w rest) (rows_push (take i rows) row ∙ ap (λ a. rows_bytes form (take i rows) ++ a) t)
+      ∙ append_assoc (rows_bytes form (take i rows)) (take w rest) (drop w rest)
+      ∙ ap (λ a. rows_bytes form (take i rows) ++ a) (take-append-drop w rest)
+      ∙ e
 
 whole_push : {M : Type 0} (rows : List (Row M)) (r : Row M) → WholeRows rows → Whole r.word → WholeRows (rows ++ r ∷ [])
 whole_push [] r h k = (k, tt)

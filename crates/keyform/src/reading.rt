@@ -57,19 +57,14 @@ fn rows_fit<G: StoredGroup>(bytes: &[u8], count: usize) -> bool
     ensures { Decides result (RowsIn G.StoredGroup.form count bytes.now) }
 {
     let size = row_size::<G>();
-    let mut at = 0;
-    let mut left = count;
-    while left > 0 {
-        if bytes.len() - at < size {
-            return false;
-        }
-        if !row_fits::<G>(&bytes[at..at + size]) {
-            return false;
-        }
-        at += size;
-        left -= 1;
+    if count.checked_mul(size) != Some(bytes.len()) {
+        return false;
     }
-    at == bytes.len()
+    bytes.chunks_exact(size).all(
+        |row: &[u8]| -> bool
+            ensures { Decides result (RowIn G.StoredGroup.form row.now) }
+        { row_fits::<G>(row) },
+    )
 }
 
 // Fills the table with the rows that have these bytes.
@@ -80,14 +75,11 @@ fn fill<G: StoredGroup>(bytes: &[u8], rows: &mut Rows<G>)
     ensures same { rows.new.rows.ghost_name ≡ rows.old.rows.ghost_name }
 {
     let size = row_size::<G>();
-    let mut at = 0;
+    let mut rest = bytes;
     for i in 0..rows.count() {
-        let end = at + size;
-        let Some(row) = read_row(&bytes[at..end]) else {
-            return;
-        };
-        rows.put(i, row);
-        at = end;
+        let (row, after) = rest.split_at(size);
+        rows.put(i, read_row(row).unwrap());
+        rest = after;
     }
 }
 

@@ -1,4 +1,4 @@
-use Rattle.std.proofs.Common.{◌≡◌, ◌-◌, ◌≤◌, length, take, drop}
+use Rattle.std.proofs.Common.{◌≡◌, ◌-◌, ◌++◌, length, take}
 use Rattle.layout.specs.Keys.{rows_bytes}
 use Rattle.keyform.specs.Reads.{RowsIn, WholeRows}
 use Rattle.keyform.proofs.reading.fill.Given as goal
@@ -9,7 +9,6 @@ invariant-loop-i g l =
     let n = length l.initial.rows.rows.now in
     (length l.rows.rows.now ≡ n)
     × (l.rows.rows.ghost_name ≡ l.initial.rows.rows.ghost_name)
-    × (l.at ≤ length l.bytes)
-    × (RowsIn form (n - l.i) (drop l.at l.bytes))
-    × (rows_bytes form (take l.i l.rows.rows.now) ≡ take l.at l.bytes)
+    × (RowsIn form (n - l.i) l.rest)
+    × (rows_bytes form (take l.i l.rows.rows.now) ++ l.rest ≡ l.bytes)
     × (WholeRows (take l.i l.rows.rows.now))
