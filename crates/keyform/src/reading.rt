@@ -57,19 +57,8 @@ fn rows_fit<G: StoredGroup>(bytes: &[u8], count: usize) -> bool
     ensures { Decides result (RowsIn G.StoredGroup.form count bytes.now) }
 {
     let size = row_size::<G>();
-    let mut at = 0;
-    let mut left = count;
-    while left > 0 {
-        if bytes.len() - at < size {
-            return false;
-        }
-        if !row_fits::<G>(&bytes[at..at + size]) {
-            return false;
-        }
-        at += size;
-        left -= 1;
-    }
-    at == bytes.len()
+    count.checked_mul(size) == Some(bytes.len())
+        && bytes.chunks_exact(size).all(|row| row_fits::<G>(row))
 }
 
 // Fills the table with the rows that have these bytes.
@@ -79,15 +68,12 @@ fn fill<G: StoredGroup>(bytes: &[u8], rows: &mut Rows<G>)
         rows.new.rows.now }
     ensures same { rows.new.rows.ghost_name ≡ rows.old.rows.ghost_name }
 {
-    let size = row_size::<G>();
-    let mut at = 0;
-    for i in 0..rows.count() {
-        let end = at + size;
-        let Some(row) = read_row(&bytes[at..end]) else {
+    let mut chunks = bytes.chunks_exact(row_size::<G>());
+    for row in rows.rows.iter_mut() {
+        let Some(read) = chunks.next().and_then(|bytes| read_row(bytes)) else {
             return;
         };
-        rows.put(i, row);
-        at = end;
+        *row = read;
     }
 }
 

@@ -1,87 +1,49 @@
-use Rattle.std.proofs.Common.{◌≡◌, ℕ, suc, ◌+◌, ◌-◌, ◌<◌, ◌≤◌, length, take, drop, sym, ap, ◌∙◌, subst, arith, length-drop, length-set, take_all, rules}
+use Rattle.std.proofs.Common.{◌≡◌, ℕ, suc, ◌+◌, ◌-◌, ◌<◌, ◌≤◌, Bor, List, Some, length, take, ap, ◌∙◌, arith, length-append, rules}
 use Rattle.layout.specs.Keys.{rows_bytes}
-use Rattle.keyform.specs.Reads.{RowsIn, WholeRows}
-use Rattle.keyform.proofs.Decided.{most}
-use Rattle.keyform.proofs.Steps.{rows_none_long, row_there, rows_there, room, rows_put, whole_put}
-use Rattle.keyform.proofs.reading.fill.Given as given
+use Rattle.keyform.specs.Reads.{RowIn, RowRead}
+use Rattle.keyform.proofs.Decided.{most, some_told, neither_told}
+use Rattle.keyform.proofs.Steps.{chunk_there, chunk_first, rows_put, whole_put}
 use Rattle.keyform.proofs.reading.fill.Goals as goal
 
--- the row at hand lies within the bytes
-within : (g : given.Over) (c : goal.In-loop-i g) → c.loop-i.at + c.row_size-size.result ≤ length c.args.bytes.now
-within g c =
+pub returns-in_default-clause-read : goal.returns-in_default-clause-read
+returns-in_default-clause-read g c =
     let s = g.G.StoredGroup in
     let n = length c.args.rows.now.rows.now in
-    let i = c.loop-i.i in
-    let inv = c.loop-i.invariant in
-    let is : n - i ≡ suc (n - (i + 1)) = omega (arith, c.loop-i-test.true, c.count-i-end.ensures) in
-    room s.form s.size g.met.G.StoredGroup.sized (n - (i + 1)) (n - i) c.loop-i.at
-    c.row_size-size.result most c.args.bytes.now is
-    c.row_size-size.ensures inv.2 inv.3
+    let i = c.loop-row.row-index in
+    let inv = c.loop-row.invariant in
+    let rest = c.loop-row.chunks.rest.now in
+    let is : n - i ≡ suc (n - (i + 1)) = omega arith in
+    let w : c.loop-row.chunks.size ≡ c.row_size.result = inv.0 ∙ c.chunks_exact-chunks.ensures.size in
+    let size = w ∙ c.row_size.ensures in
+    let long = ap length inv.2 in
+    let few : length rest ≤ most = omega (arith, long, length-append (rows_bytes s.form (take i c.loop-row.row-items)) rest) in
+    let there = chunk_there s.form s.size g.met.G.StoredGroup.sized (n - (i + 1)) (n - i) c.loop-row.chunks.size most rest is size inv.1 in
+    let no : (x : Bor (List ℕ)) → c.next.result ≡ Some x → RowIn s.form x.now → ⊥ = λ x e r. search rules in
+    absurd (neither_told c.next.result c.next.ensures.steps.1 (λ few. omega (arith, few.0, there)) (λ x e p. no x e
+    (chunk_first s.form s.size g.met.G.StoredGroup.sized (n - (i + 1)) (n - i) c.loop-row.chunks.size most rest x.now
+    c.next.new.self.rest.now is size few p.0 p.1 inv.1).0))
 
-pub overflow_add-end : goal.overflow_add-end
-overflow_add-end g c = let h = within g c in search rules
-
-pub slice_bounds-read_row-end : goal.slice_bounds-read_row-end
-slice_bounds-read_row-end g c = let h = within g c in search rules
-
-pub returns-in_default : goal.returns-in_default
-returns-in_default g c =
+pub loop-row-preserved : goal.loop-row-preserved
+loop-row-preserved g c =
     let s = g.G.StoredGroup in
+    let xs = c.loop-row.row-items in
     let n = length c.args.rows.now.rows.now in
-    let i = c.loop-i.i in
-    let inv = c.loop-i.invariant in
-    let is : n - i ≡ suc (n - (i + 1)) = omega (arith, c.loop-i-test.true, c.count-i-end.ensures) in
-    let few : length c.args.bytes.now ≤ most = omega arith in
-    absurd (c.in_default.ensures
-    (row_there s.form s.size g.met.G.StoredGroup.sized (n - (i + 1)) (n - i) c.loop-i.at
-    c.row_size-size.result most c.args.bytes.now is
-    c.row_size-size.ensures few inv.3))
-
-pub loop-i-preserved : goal.loop-i-preserved
-loop-i-preserved g c =
-    let s = g.G.StoredGroup in
-    let xs = c.loop-i.rows.rows.now in
-    let n = length c.args.rows.now.rows.now in
-    let bytes = c.args.bytes.now in
-    let i = c.loop-i.i in
-    let at = c.loop-i.at in
-    let w = c.row_size-size.result in
-    let inv = c.loop-i.invariant in
-    let row = c.in-Some.row in
-    let is : n - i ≡ suc (n - (i + 1)) = omega (arith, c.loop-i-test.true, c.count-i-end.ensures) in
-    let few : length bytes ≤ most = omega arith in
-    let lt : i < length xs = omega (arith, inv.0, c.loop-i-test.true, c.count-i-end.ensures) in
-    let put = c.put.ensures.rows in
-    let read = c.in-Some.ensures in (
-      ap length put ∙ length-set xs i row ∙ inv.0,
-      c.put.ensures.same ∙ inv.1,
-      room s.form s.size g.met.G.StoredGroup.sized (n - (i + 1)) (n - i) at w most bytes is
-          c.row_size-size.ensures inv.2 inv.3,
-      rows_there s.form s.size g.met.G.StoredGroup.sized (n - (i + 1)) (n - i) at w most bytes is
-          c.row_size-size.ensures few inv.3,
-      ap (λ ys. rows_bytes s.form (take (i + 1) ys)) put ∙ rows_put s.form xs i at w row bytes lt inv.4 read,
-      subst (λ ys. WholeRows (take (i + 1) ys)) (sym put) (whole_put xs i row lt inv.5 read.whole),
+    let i = c.loop-row.row-index in
+    let inv = c.loop-row.invariant in
+    let rest = c.loop-row.chunks.rest.now in
+    let more = c.next.new.self.rest.now in
+    let row = c.in-Some.read in
+    let is : n - i ≡ suc (n - (i + 1)) = omega arith in
+    let lt : i < length xs = omega arith in
+    let w : c.loop-row.chunks.size ≡ c.row_size.result = inv.0 ∙ c.chunks_exact-chunks.ensures.size in
+    let size = w ∙ c.row_size.ensures in
+    let long = ap length inv.2 in
+    let few : length rest ≤ most = omega (arith, long, length-append (rows_bytes s.form (take i xs)) rest) in
+    let read : (x : Bor (List ℕ)) × (c.next.result ≡ Some x) × RowRead s.form x.now row = search rules in
+    let step = some_told _ _ c.next.result read.0 read.1 c.next.ensures.steps.1 in (
+      c.next.ensures.steps.0 ∙ inv.0,
+      (chunk_first s.form s.size g.met.G.StoredGroup.sized (n - (i + 1)) (n - i) c.loop-row.chunks.size most rest
+          read.0.now more is size few step.0 step.1 inv.1).1,
+      rows_put s.form xs i row rest read.0.now more c.args.bytes.now lt inv.2 step.0 read.2,
+      whole_put xs i row lt inv.3 read.2.whole,
     )
-
-pub returns : goal.returns
-returns g c =
-    let s = g.G.StoredGroup in
-    let xs = c.loop-i.rows.rows.now in
-    let n = length c.args.rows.now.rows.now in
-    let bytes = c.args.bytes.now in
-    let i = c.loop-i.i in
-    let at = c.loop-i.at in
-    let inv = c.loop-i.invariant in
-    let none : n - i ≡ 0 = omega (arith, c.loop-i-test.false, c.count-i-end.ensures) in
-    let In : ℕ → Type 0 = λ k. RowsIn s.form k (drop at bytes) in
-    let done = rows_none_long s.form (drop at bytes) (subst In none inv.3) in
-    let all : take i xs ≡ xs = take_all i xs (omega (arith, inv.0, none)) in
-    let read : take at bytes ≡ bytes = take_all at bytes (omega (arith, done, length-drop at bytes)) in
-    record {
-      read = record {
-        count = inv.0;
-        same = ap (rows_bytes s.form) (sym all) ∙ inv.4 ∙ read;
-        whole = subst WholeRows all inv.5;
-      };
-      same = inv.1;
-    }
