@@ -57,14 +57,8 @@ fn rows_fit<G: StoredGroup>(bytes: &[u8], count: usize) -> bool
     ensures { Decides result (RowsIn G.StoredGroup.form count bytes.now) }
 {
     let size = row_size::<G>();
-    if count.checked_mul(size) != Some(bytes.len()) {
-        return false;
-    }
-    bytes.chunks_exact(size).all(
-        |row: &[u8]| -> bool
-            ensures { Decides result (RowIn G.StoredGroup.form row.now) }
-        { row_fits::<G>(row) },
-    )
+    count.checked_mul(size) == Some(bytes.len())
+        && bytes.chunks_exact(size).all(|row| row_fits::<G>(row))
 }
 
 // Fills the table with the rows that have these bytes.
@@ -74,12 +68,12 @@ fn fill<G: StoredGroup>(bytes: &[u8], rows: &mut Rows<G>)
         rows.new.rows.now }
     ensures same { rows.new.rows.ghost_name ≡ rows.old.rows.ghost_name }
 {
-    let size = row_size::<G>();
-    let mut rest = bytes;
-    for i in 0..rows.count() {
-        let (row, after) = rest.split_at(size);
-        rows.put(i, read_row(row).unwrap());
-        rest = after;
+    let mut chunks = bytes.chunks_exact(row_size::<G>());
+    for row in rows.rows.iter_mut() {
+        let Some(read) = chunks.next().and_then(|bytes| read_row(bytes)) else {
+            return;
+        };
+        *row = read;
     }
 }
 
