@@ -10,4 +10,3 @@ pub mod Ends
 pub mod Tails
 pub mod TwoKeys
 pub mod Threes
-pub mod Chunks
