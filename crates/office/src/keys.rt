@@ -21,6 +21,7 @@ fn print_compared<G: Group + fmt::Display>(
     print_common(rt, rows, &ends.last)
 }
 
+// Stays: the memory is the caller's, who knows the group: the size of `[Row<G>; 32]` has no bound here.
 fn print_interval_key<G: StoredGroup + fmt::Display>(
     rt: &HostRuntime,
     width: u8,
