@@ -1,4 +1,4 @@
-use Rattle.std.proofs.Common.{◌≡◌, ◌+◌, ◌*◌, ◌<◌, ◌≤◌, ◌∙◌, ap, arith, rules}
+use Rattle.std.proofs.Common.{◌+◌, ◌*◌, ◌≤◌, ◌∙◌, arith, rules}
 use Rattle.plan.specs.Plans.{stated, wires}
 use Rattle.dealer.proofs.Shorts.{bodies_sum, lengths_short}
 use Rattle.dealer.proofs.Book.long.Goals as goal
