@@ -1,5 +1,7 @@
 -- A plan that is allowed has a book of at most 54,880 bytes.
-use Rattle.std.proofs.Common.{◌≡◌, ℕ, zero, suc, ◌+◌, ◌-◌, ◌*◌, ◌<◌, ◌≤◌, Bool, true, false, cond, ◌&&◌, eqb, ltb, leb, List, [], ◌∷◌, length, get_or, refl, ap, add-one, arith}
+use Rattle.std.proofs.Common.{◌≡◌, ℕ, zero, suc, ◌+◌, ◌-◌, ◌*◌, ◌<◌, ◌≤◌, Bool, true, false, cond, ◌&&◌, eqb, ltb, leb, List, [], ◌∷◌, length, get_or, map, sum, sym, refl, ap, ◌∙◌, add-one, arith}
+use Rattle.std.specs.List.{range_with_len}
+use Rattle.std.proofs.lemmas.List.FromFn.{sum_by-map-range_with_len_more}
 use Rattle.std.proofs.lemmas.Bool.Decides.{nat_tests}
 use Rattle.plan.specs.declared.PlanRow.{PlanRow}
 use Rattle.plan.specs.Gates.{GateBody}
@@ -53,6 +55,14 @@ body_short p b k h = pick (is_input p k) (eqb (get_or p.owners k 0) b) (row_at p
 
 pub lengths_more : (p : Planned) (b k : ℕ) → lengths_below p b (k + 1) ≡ lengths_below p b k + body_length p b k
 lengths_more p b k = ap (lengths_below p b) (add-one k)
+
+-- the bodies' lengths in a row
+pub bodies_sum : (p : Planned) (b k : ℕ) → sum (map (body_length p b) (range_with_len 0 k)) ≡ lengths_below p b k
+bodies_sum p b zero = refl
+bodies_sum p b (suc k) =
+    let m = sum_by-map-range_with_len_more (λ x. x) (body_length p b) 0 k k (omega arith) in
+    let r = bodies_sum p b k in
+    ap (λ i. sum (map (body_length p b) (range_with_len 0 i))) (sym (add-one k)) ∙ m ∙ ap (λ i. i + body_length p b k) r
 
 pub lengths_short : (p : Planned) (b k : ℕ) → Allowed p → lengths_below p b k ≤ 5 * k + 1695 * (k - length p.owners)
 lengths_short p b zero h = omega arith

@@ -1,7 +1,8 @@
 // Deals: the book of one box, from a plan and random words.
 #![tactic(auto)]
 
-ghost use Rattle.std.specs.Prelude.{◌≡◌, ◌+◌, ◌<◌, ◌≤◌, true, [], length, IfOk, ◌==◌};
+ghost use Rattle.std.specs.Prelude.{◌≡◌, ◌+◌, ◌<◌, ◌≤◌, true, [], length, IfOk, ◌==◌, ◌^◌, sum, map};
+ghost use Rattle.std.specs.List.{range_with_len};
 ghost use Rattle.key.specs.Rows.{is_one};
 ghost use Rattle.plan.specs.Plans.{stated, wires};
 ghost use Rattle.layout.specs.Bytes.{joined};
@@ -87,16 +88,21 @@ impl<'a> Book<'a> {
         }
     }
 
+    // All the bodies together.
+    fn bodies_long(self) -> usize
+        requires { sum (map (body_length (stated self.plan.plan) self.number)
+            (range_with_len 0 (wires (stated self.plan.plan)))) < 2 ^ 64 }
+        ensures { result ≡ sum (map (body_length (stated self.entry.plan.plan) self.entry.number)
+            (range_with_len 0 (wires (stated self.entry.plan.plan)))) }
+    {
+        (0..self.plan.wires()).map(|k| self.body_len(k)).sum()
+    }
+
     fn long(self) -> usize
         ensures { result ≡ place (stated self.entry.plan.plan) self.entry.number
             (wires (stated self.entry.plan.plan)) }
     {
-        let wires = self.plan.wires();
-        let mut end = 16 + 8 * wires;
-        for k in 0..wires {
-            end += self.body_len(k);
-        }
-        end
+        16 + 8 * self.plan.wires() + self.bodies_long()
     }
 
     // The parts of the book.
@@ -123,6 +129,7 @@ impl<'a> Book<'a> {
     {
         let wires = self.plan.wires();
         let mut place = 16 + 8 * wires;
+        // Stays: no plainer as a chain; the place goes on from wire to wire, and a closure would change it and the writer.
         for k in 0..wires {
             let long = self.body_len(k);
             put_two(writer, place as u32, long as u32);
@@ -147,6 +154,8 @@ impl<'a> Book<'a> {
             masks: &masks,
         };
         let mut rest = words;
+        // Stays: no plainer as a chain; `rest` goes on from wire to wire, and a plan has its wires in two slices (owners
+        // and rows), so an iterator of wires would count k itself.
         for k in 0..self.plan.wires() {
             let wire = self.plan.wire(k);
             put_wire(writer, &dealer, self.number, wire, mask_in(&masks, k), rest);

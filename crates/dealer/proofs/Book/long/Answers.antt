@@ -1,23 +1,34 @@
-use Rattle.std.proofs.Common.{◌+◌, ◌≤◌, arith, rules}
-use Rattle.plan.specs.Plans.{stated}
-use Rattle.dealer.proofs.Shorts.{lengths_more, lengths_short}
+use Rattle.std.proofs.Common.{◌+◌, ◌*◌, ◌≤◌, ◌∙◌, arith, rules}
+use Rattle.plan.specs.Plans.{stated, wires}
+use Rattle.dealer.proofs.Shorts.{bodies_sum, lengths_short}
 use Rattle.dealer.proofs.Book.long.Goals as goal
 
-pub overflow_add-end-in-loop-k : goal.overflow_add-end-in-loop-k
-overflow_add-end-in-loop-k c =
+pub bodies_long-requires : goal.bodies_long-requires
+bodies_long-requires c =
     let a = c.args.self in
     let p = stated a.plan.plan in
-    let m = lengths_more p a.number c.loop-k.k in
-    let s = lengths_short p a.number (c.loop-k.k + 1) a.plan.allowed in
+    let e = bodies_sum p a.number (wires p) in
+    let s = lengths_short p a.number (wires p) a.plan.allowed in
     let i = a.plan.allowed.inputs in
     let g = a.plan.allowed.gates in
-    let e = c.body_len-end.ensures in
-    let few : c.loop-k.end + c.body_len-end.result ≤ 1000000 = omega arith in
+    omega arith
+
+pub overflow_add-result-2 : goal.overflow_add-result-2
+overflow_add-result-2 c =
+    let a = c.args.self in
+    let p = stated a.plan.plan in
+    let e = c.bodies_long.ensures ∙ bodies_sum p a.number (wires p) in
+    let s = lengths_short p a.number (wires p) a.plan.allowed in
+    let i = a.plan.allowed.inputs in
+    let g = a.plan.allowed.gates in
+    let n = c.wires.ensures.wires in
+    let few : 16 + 8 * c.wires.result + c.bodies_long.result ≤ 1000000 = omega arith in
     search rules
 
-pub loop-k-preserved : goal.loop-k-preserved
-loop-k-preserved c =
+pub returns : goal.returns
+returns c =
     let a = c.args.self in
-    let m = lengths_more (stated a.plan.plan) a.number c.loop-k.k in
-    let e = c.body_len-end.ensures in
+    let p = stated a.plan.plan in
+    let e = c.bodies_long.ensures ∙ bodies_sum p a.number (wires p) in
+    let n = c.wires.ensures.wires in
     omega arith
