@@ -28,7 +28,6 @@ pub then_decided : {A N P : Type 0} (Q : A → Type 0) (b : Bool) (a : A) (o : O
 then_decided Q true a o e d found back = rw e (found (d.0 refl))
 then_decided Q false a o e d found back = rw e (λ n. both_ways false refl (d.1 (back n)))
 
--- what is not answered no is answered yes
 pub not_no : (b : Bool) → (b ≡ false → ⊥) → b ≡ true
 not_no true f = refl
 not_no false f = absurd (f refl)

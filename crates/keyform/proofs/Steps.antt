@@ -95,7 +95,7 @@ module _ {M : Type 0} (form : M → List ℕ) (z : ℕ) (sized : (a : M) → len
       → RowsIn form n rest → w ≡ 17 + z
   size_there m n w max rest e is few t = let f = (rows_first m n rest e t).0 in omega arith
 
-  -- at least w bytes are left
+  -- no chunk of w bytes is left
   pub chunk_there : (m n w max : ℕ) (rest : List ℕ) → n ≡ suc m → w ≡ min (17 + z) max → RowsIn form n rest
       → w ≤ length rest
   chunk_there m n w max rest e is t = let f = (rows_first m n rest e t).0 in omega arith
