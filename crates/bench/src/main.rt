@@ -187,6 +187,7 @@ impl Bench<'_> {
     }
 
     // Keys that are dealt, and one that is evaluated.
+    // Stays: the memory is the caller's, who knows the group: the size of `[Row<G>; 32]` has no bound here.
     fn keys<X: Expander, G: Group + Checksum>(
         &self,
         deals: &str,

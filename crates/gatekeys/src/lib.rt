@@ -20,11 +20,8 @@ impl Interval {
     pub fn new(width: Width, low: u32, high: u32) -> Result<Interval, Refusal>
         ensures { view_answer interval_view result ≡ interval_answer width.bits low high }
     {
-        if low <= high && width.has(high) {
-            Ok(Interval { width, low, high })
-        } else {
-            Err(Refusal::PlanFields)
-        }
+        Refusal::ask(low <= high && width.has(high), Refusal::PlanFields)?;
+        Ok(Interval { width, low, high })
     }
 
     pub fn width(self) -> Width
@@ -51,11 +48,8 @@ impl Shift {
     pub fn new(width: Width, by: u8) -> Result<Shift, Refusal>
         ensures { view_answer shift_view result ≡ shift_answer width.bits by }
     {
-        if (1..width.bits()).contains(&by) {
-            Ok(Shift { width, by })
-        } else {
-            Err(Refusal::PlanFields)
-        }
+        Refusal::ask((1..width.bits()).contains(&by), Refusal::PlanFields)?;
+        Ok(Shift { width, by })
     }
 
     pub fn width(self) -> Width
@@ -72,6 +66,7 @@ impl Shift {
 }
 
 // A root from two random words, each with its lowest byte first.
+// Stays: two halves, each copied; the ciphers' `bytes_at` is in a crate of standards, which no gate reads.
 pub fn root_from(first: u64, second: u64) -> Seed
     ensures { result ≡ root_of first second }
 {

@@ -34,6 +34,7 @@ pub fn after_end(width: Width, end: u32) -> u32
 }
 
 // An element once, or not at all.
+// Stays: a test and an element, as the rule's definitions have them (`taken`, `net`); an Option would be made for one call.
 pub fn once<G: Group>(yes: bool, element: G) -> G
     ensures { G.Group.mean result ≡ taken G.Group.group yes (G.Group.mean element) }
 {

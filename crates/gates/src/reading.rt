@@ -17,6 +17,8 @@ use masking::Width;
 use refusal::Refusal;
 use stored::StoredGroup;
 
+// Stays: three readers, since each asks its own questions and fills its own tables; what they share is keyform's.
+
 // The key of an interval gate: its rows into the table, which has as many as the width (else refusal 43). Refusal 16 where no
 // key has these bytes.
 pub fn read_interval_key<G: StoredGroup>(

@@ -17,11 +17,8 @@ impl Width {
     pub fn new(bits: u8) -> Result<Width, Refusal>
         ensures { width_answer result ≡ allowed bits }
     {
-        if (1..=32).contains(&bits) {
-            Ok(Width { bits })
-        } else {
-            Err(Refusal::KeyWidth)
-        }
+        Refusal::ask((1..=32).contains(&bits), Refusal::KeyWidth)?;
+        Ok(Width { bits })
     }
 
     pub fn bits(self) -> u8

@@ -20,6 +20,7 @@ impl<'a> CheckedPlan<'a> {
     ghost use Rattle.plan.specs.Checked.{checked_answer};
 
     // The questions 1 to 6 about a plan that is dealt to box `number` from so many random words.
+    // Stays: the box is a byte, as in `check_plan`.
     pub fn new(plan: Plan<'a>, number: u8, words: usize) -> Result<CheckedPlan<'a>, Refusal>
         ensures { checked_answer result ≡ answered (plan_asks (stated plan.entry) number words) (stated plan.entry) }
     {

@@ -98,8 +98,8 @@ pub type GateBody = Gate<[u32; 4], u32>;
 pub type GateHead = Gate<(), ()>;
 
 // Is a number below N?
-// Stays: `comparison` asks the same of a key's numbers; neither crate stands on the other, and a crate for one line would be
-// no plainer.
+// Stays: `masking` has the same of a width that is allowed, and `comparison` of a key's numbers; here any byte may be asked
+// about as a width, and keys stand on no masks, so that one function for the three would be no plainer.
 pub fn below(width: u8, number: u32) -> bool
     ensures { result ≡ below width number }
 {
@@ -137,6 +137,7 @@ fn lower_number<W: Wires>(wires: &W, k: usize, wire: u8) -> bool
 }
 
 // Is it a wire below k that carries flags?
+// Stays: as the one above but for a `!`; a flag that chooses between them would be no plainer.
 fn lower_flag<W: Wires>(wires: &W, k: usize, wire: u8) -> bool
     ensures { result ≡ lower_flag (W.flags wires.now) k wire }
 {
