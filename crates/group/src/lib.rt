@@ -112,6 +112,7 @@ impl Group for Flags {
     }
 }
 
+// Stays: as Word's. They are two types, and one impl for all number types would overlap the pair's.
 impl fmt::Display for Flags {
     ghost output = { λ w. Some (decimal w.0) };
 

@@ -53,7 +53,8 @@ fn words_of_rows(rows: &[PlanRow]) -> usize
 }
 
 // The questions 1 to 6 about a plan that is dealt to box `number` from so many random words.
-// Stays: any number is asked about here and refused, so the box is a byte.
+// Stays: any number is asked about here and refused, so the box is a byte; the plan, the box and the words come from the
+// caller one by one.
 pub fn check_plan(plan: Plan, number: u8, words: usize) -> Result<(), Refusal>
     ensures { result ≡ answered (plan_asks (stated plan.entry) number words) tt }
 {
