@@ -4,6 +4,7 @@ ghost use Rattle.aes.specs.Blocks.{block_bytes, word_bytes};
 ghost use Rattle.standards.specs.Fips197.{add_round_key};
 
 use standards::bytes_at;
+use std::array;
 use std::simd::u32x4;
 
 #[derive(Clone, Copy)]
@@ -22,12 +23,7 @@ impl Block {
     pub fn from_bytes(bytes: &[u8; 16]) -> Block
         ensures { block_bytes result ≡ bytes.now }
     {
-        Block([
-            word_at(bytes, 0),
-            word_at(bytes, 4),
-            word_at(bytes, 8),
-            word_at(bytes, 12),
-        ])
+        Block(array::from_fn(|i| word_at(bytes, 4 * i)))
     }
 
     pub fn to_bytes(self) -> [u8; 16]

@@ -193,7 +193,6 @@ pub fn substituted(b: u8) -> u8
     table_entry(b)
 }
 
-// What a byte of row 0, substituted, adds to its mixed column.
 // What a byte, substituted, adds to a mixed column from its row.
 pub fn mixed_row<const ROW: usize>(b: u8) -> u32
     requires { ROW < 4 }

@@ -8,8 +8,10 @@ ghost use Rattle.bodies.specs.Bodies.{shown_in, rest_in, head_in, key_in, gate_i
 use crate::{GateHead, WireBody};
 use layout::after;
 use plan::GateKind;
+use std::array;
 
 // The byte at a place; 0 past the end.
+// Stays: at a byte what `masks` has at a word; one for both would have to be told its zero.
 pub fn byte_in(bytes: &[u8], at: usize) -> u8
     ensures { result ≡ slice_index bytes.now at }
 {
@@ -21,12 +23,7 @@ pub fn number_in(bytes: &[u8], at: usize) -> u32
     ensures { result ≡ number_at bytes.now at }
 {
     let four = after(bytes, at);
-    u32::from_le_bytes([
-        byte_in(four, 0),
-        byte_in(four, 1),
-        byte_in(four, 2),
-        byte_in(four, 3),
-    ])
+    u32::from_le_bytes(array::from_fn(|i| byte_in(four, i)))
 }
 
 // The n bytes from a place on; none where they are not all there.

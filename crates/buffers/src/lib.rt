@@ -1,9 +1,8 @@
-// Writing bytes one part after another into a buffer, and reading numbers out of one.
+// Writing bytes one part after another into a buffer.
 #![tactic(auto)]
 
-ghost use Rattle.std.specs.Prelude.{◌≡◌, [], ◌∷◌, ◌+◌, ◌≤◌, length};
+ghost use Rattle.std.specs.Prelude.{◌≡◌, [], ◌∷◌};
 ghost use Rattle.stored.specs.Forms.{four_bytes};
-ghost use Rattle.layout.specs.Bytes.{number_at};
 ghost use Rattle.buffers.specs.Forms.{Put, Room};
 
 // A buffer of the caller's, written from a place on: each part follows the one before.
@@ -46,13 +45,4 @@ impl<'a> Writer<'a> {
     {
         self.put(&number.to_le_bytes());
     }
-}
-
-// The number that four bytes write from a place on.
-// Stays: `chacha` reads its words by the standard's definition, this crate by the book's; neither stands on the other.
-pub fn number_at(bytes: &[u8], at: usize) -> u32
-    requires { at + 4 ≤ length bytes.now }
-    ensures { result ≡ number_at bytes.now at }
-{
-    u32::from_le_bytes(*bytes[at..].first_chunk().unwrap())
 }

@@ -24,6 +24,7 @@ fn control_after(control: bool, bit: bool, row_bit: bool) -> bool
 }
 
 // Both boxes on the way to the threshold: their seeds, their control bits, and by what their sums are apart.
+// Stays: as the rules name them; a struct of a seed and a bit would be made anew at every step, which is no plainer.
 #[derive(Clone, Copy)]
 pub struct Descent<G> {
     pub seed0: Seed,
@@ -134,6 +135,8 @@ impl<G: Group> Descent<G> {
 }
 
 // Deals a key into the table, a row for each bit of the threshold, the highest first; the final element is returned.
+// Stays: threshold, payload and roots come from three sides, a mask, a gate and its random words; a struct made at each
+// call and taken apart here is no plainer.
 pub fn deal<X: Expander, G: Group>(
     expander: &X,
     threshold: u32,
@@ -151,6 +154,8 @@ pub fn deal<X: Expander, G: Group>(
 {
     let count = rows.count();
     let mut at = Descent::begin(roots);
+    // Stays: a `zip` with the reversed range was tried; its proof didn't close, since past an adapter of `iter_mut` other than
+    // `enumerate` nothing is known of the rows.
     for (i, row) in rows.rows.iter_mut().enumerate() {
         let bit = bit_at(threshold, count - 1 - i);
         let b0 = expander.branch(at.seed0);

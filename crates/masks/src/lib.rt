@@ -6,12 +6,14 @@ ghost use Rattle.plan.specs.Plans.{stated};
 ghost use Rattle.layout.specs.Bytes.{front};
 ghost use Rattle.masks.specs.Masks.{gate_mask, wire_mask, masks};
 
+use group::low_half;
 use layout::after;
 use masking::{Width, xor};
 use plan::{GateBody, Plan, PlanWire};
 use std::array;
 
 // A random word; 0 past the last.
+// Stays: at a word what `bodies` has at a byte; one for both would have to be told its zero.
 fn word_in(words: &[u64], i: usize) -> u64
     ensures { result ≡ slice_index words.now i }
 {
@@ -26,7 +28,8 @@ pub fn words_from<const K: usize>(words: &[u64]) -> [u64; K]
 }
 
 // A wire's mask in the table.
-// Stays: no heap in a box, so the masks are a table of fixed size.
+// Stays: no heap in a box, so the masks are a table of fixed size; one function for this, `word_in` and the byte of `bodies`
+// would have to be told its zero.
 pub fn mask_in(masks: &[u32; 48], wire: usize) -> u32
     ensures { result ≡ slice_index masks.now wire }
 {
@@ -44,7 +47,7 @@ fn gate_mask(width: Width, masks: &[u32; 48], word: u64, body: GateBody) -> u32
         | GateBody::Piece { .. }
         | GateBody::Shift { .. }
         | GateBody::SignedShift { .. } => width.reduce(word),
-        GateBody::Flag { .. } => (word % (1u64 << 32)) as u32,
+        GateBody::Flag { .. } => low_half(word),
         GateBody::Xor { a, b } => xor(mask_in(masks, a as usize), mask_in(masks, b as usize)),
     }
 }
@@ -58,7 +61,8 @@ fn wire_mask(width: Width, masks: &[u32; 48], word: u64, wire: PlanWire) -> u32
     }
 }
 
-// Stays: a plan and a width, since a CheckedPlan would ask for more than the masks need.
+// Stays: a plan and a width; a CheckedPlan would ask more of callers than the masks need, and no function may come to ask
+// more.
 // The masks of all wires. Each wire takes its random words from the front of what the wires below it leave.
 pub fn masks_of(width: Width, plan: Plan, words: &[u64]) -> [u32; 48]
     requires { (length plan.owners.now + length plan.rows.now ≤ 48) × (plan.width ≡ width.bits) }

@@ -6,7 +6,6 @@ ghost use Rattle.reader.specs.Questions.{body_end, gapless, reads_in, wire_fits,
 
 use crate::reading::{Book, body_in, entry_in};
 use bodies::{GateHead, byte_in, gate_fits, head_in, input_fits, number_in};
-use buffers::number_at;
 use refusal::Refusal;
 
 impl<'a> Book<'a> {
@@ -63,7 +62,7 @@ fn asked_book(kind: u8, book: &[u8]) -> Result<(), Refusal>
     ensures { result ≡ answered (book_asks kind book.now) tt }
 {
     Refusal::ask(
-        book.len() >= 16 && number_at(book, 12) as usize == book.len(),
+        book.len() >= 16 && number_in(book, 12) as usize == book.len(),
         Refusal::BookLength,
     )?;
     Refusal::ask(
