@@ -22,6 +22,8 @@ use plan::{CheckedPlan, Plan, PlanWire};
 use refusal::Refusal;
 
 // The box that a book is for.
+// Stays: past the questions a number is 0 or 1, so a `TryFrom` (in `key`, whose type it is) would have an error that
+// cannot be.
 fn box_of(number: u8) -> BoxNumber
     ensures { is_one result ≡ (number == 1) }
 {
@@ -42,6 +44,7 @@ fn put_input(writer: &mut Writer, owner: u8, mask: Option<u32>)
 
 // The body of a wire in the book of box `number`, from its own random words on: an input's mask is for its owner only, a
 // gate's is given where it is shown.
+// Stays: `number` is a byte, since it is compared with owners.
 fn put_wire<X: Expander>(
     writer: &mut Writer,
     dealer: &Dealer<X>,
@@ -68,6 +71,7 @@ fn put_wire<X: Expander>(
 #[derive(Clone, Copy)]
 struct Book<'a> {
     plan: CheckedPlan<'a>,
+    // Stays: a byte, since it is compared with owners and written into the book.
     number: u8,
 }
 
@@ -107,6 +111,7 @@ impl<'a> Book<'a> {
 
     // The parts of the book.
 
+    // Stays: `kind` is the byte by which an expander names itself, and is written as such.
     fn put_header(self, writer: &mut Writer, kind: u8, deal: u32, long: u32)
         requires { Room writer.old (header_bytes (header_of kind
             (order (stated self.plan.plan) self.number deal [])) long) }
@@ -166,6 +171,7 @@ impl<'a> Book<'a> {
 
 // Writes the book of box `number` at the front of the buffer, and answers its length. The questions 1 to 7 are asked in
 // their order, and a deal that is refused changes no byte. A book has at most 54,880 bytes.
+// Stays: any number is asked about and refused (question 3), so the box is a byte.
 pub fn deal<X: Expander>(
     expander: &X,
     plan: Plan,

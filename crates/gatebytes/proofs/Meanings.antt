@@ -1,10 +1,11 @@
 -- The bytes of a gate key in memory are the bytes of what the key means.
-use Rattle.std.proofs.Common.{◌≡◌, ℕ, List, ◌++◌, map, Ok, ap, ◌∙◌}
+use Rattle.std.proofs.Common.{◌≡◌, ℕ, List, ◌++◌, map, Ok, Result, sym, ap, ◌∙◌, subst}
 use Rattle.stored.specs.Forms.{four_bytes}
 use Rattle.key.specs.declared.Row.{Row}
 use Rattle.key.specs.Rows.{row_mean}
+use Rattle.refusal.specs.declared.Refusal.{Refusal}
 use Rattle.refusal.specs.Questions.{answered}
-use Rattle.comparison.specs.Comparison.{answer_mean}
+use Rattle.comparison.specs.Comparison.{answer_mean, RowsAfter}
 use Rattle.gatekeys.specs.declared.ranges.Shift.{Shift}
 use Rattle.gates.specs.declared.states.Fresh.{Fresh}
 use Rattle.gates.specs.declared.interval_key.IntervalKey.{IntervalKey}
@@ -37,11 +38,14 @@ module _ {G M : Type 0} (form : G → List ℕ) (stored : M → List ℕ) (mean 
       λ i. c i ++ (same key.parts.payload i ++ (same key.parts.extra i ++ four_bytes key.parts.out))
 
   -- a key that is dealt as k with the rows rs, and whose rows are read as `slice`
-  pub interval_dealt : (key : Fresh (IntervalKey G)) (p : IntervalParts G) (slice rows : List (Row G)) (long n : ℕ) (k : IntervalKey M) (rs : List (Row M))
-      → long ≡ n → answer_mean (fresh_mean mean) (Ok key) ≡ answered (row_asks long n) k → map (row_mean mean) rows ≡ rs
-      → p ≡ key.key.parts → slice ≡ rows → parts_bytes form p slice ≡ interval_key_bytes stored k rs
-  interval_dealt key p slice rows long n k rs e d m q s =
-      let is = said (fresh_mean mean key) k _ d (rows_yes long n k e) in
+  pub interval_dealt : (r : Result (Fresh (IntervalKey G)) Refusal) (key : Fresh (IntervalKey G)) (p : IntervalParts G)
+      (slice before rows : List (Row G)) (long n : ℕ) (k : IntervalKey M) (rs : List (Row M))
+      → r ≡ Ok key → long ≡ n → answer_mean (fresh_mean mean) r ≡ answered (row_asks long n) k
+      → RowsAfter mean r before rows rs → p ≡ key.key.parts → slice ≡ rows
+      → parts_bytes form p slice ≡ interval_key_bytes stored k rs
+  interval_dealt r key p slice before rows long n k rs u e d a q s =
+      let is = said (fresh_mean mean key) k _ (ap (answer_mean (fresh_mean mean)) (sym u) ∙ d) (rows_yes long n k e) in
+      let m = subst (λ t. RowsAfter mean t before rows rs) u a in
       ap (λ v. parts_bytes form v slice) q
       ∙ interval_means key.key slice ∙ (λ i. interval_key_bytes stored (is i) ((ap (map (row_mean mean)) s ∙ m) i))
 
@@ -53,13 +57,17 @@ module _ {G M : Type 0} (form : G → List ℕ) (stored : M → List ℕ) (mean 
       let b = key_means form stored mean same key.parts.high.root high key.parts.high.last in
       λ i. a i ++ (b i ++ four_bytes key.parts.rest)
 
-  pub shift_dealt : (s : Shift) (key : Fresh (ShiftKey G)) (p : ShiftParts G) (low low1 high high1 : List (Row G)) (l h : ℕ) (k : ShiftKey M) (ls hs : List (Row M))
-      → l ≡ s.by → h ≡ s.width.bits → answer_mean (fresh_shift_mean mean) (Ok key) ≡ answered (shift_row_asks s l h) k
-      → p ≡ key.key.parts
-      → map (row_mean mean) low1 ≡ ls → low ≡ low1 → map (row_mean mean) high1 ≡ hs → high ≡ high1
+  pub shift_dealt : (s : Shift) (r : Result (Fresh (ShiftKey G)) Refusal) (key : Fresh (ShiftKey G)) (p : ShiftParts G)
+      (low low0 low1 high high0 high1 : List (Row G)) (l h : ℕ) (k : ShiftKey M) (ls hs : List (Row M))
+      → r ≡ Ok key → l ≡ s.by → h ≡ s.width.bits
+      → answer_mean (fresh_shift_mean mean) r ≡ answered (shift_row_asks s l h) k → p ≡ key.key.parts
+      → RowsAfter mean r low0 low1 ls → low ≡ low1 → RowsAfter mean r high0 high1 hs → high ≡ high1
       → shift_parts_bytes form p low high ≡ shift_key_bytes stored k ls hs
-  shift_dealt s key p low low1 high high1 l h k ls hs e f d q ml sl mh sh =
-      let is = said (fresh_shift_mean mean key) k _ d (shift_rows_yes s l h k e f) in
+  shift_dealt s r key p low low0 low1 high high0 high1 l h k ls hs u e f d q al sl ah sh =
+      let o = ap (answer_mean (fresh_shift_mean mean)) (sym u) ∙ d in
+      let is = said (fresh_shift_mean mean key) k _ o (shift_rows_yes s l h k e f) in
+      let ml = subst (λ t. RowsAfter mean t low0 low1 ls) u al in
+      let mh = subst (λ t. RowsAfter mean t high0 high1 hs) u ah in
       ap (λ v. shift_parts_bytes form v low high) q
       ∙ shift_means key.key low high
       ∙ (λ i. shift_key_bytes stored (is i) ((ap (map (row_mean mean)) sl ∙ ml) i) ((ap (map (row_mean mean)) sh ∙ mh) i))

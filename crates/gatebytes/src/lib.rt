@@ -4,6 +4,7 @@
 ghost use Rattle.std.specs.Prelude.{◌≡◌, ◌≤◌, true, ◌++◌, length};
 ghost use Rattle.stored.specs.Forms.{four_bytes};
 ghost use Rattle.key.specs.Rows.{is_one};
+ghost use Rattle.plan.specs.Gates.{number_of};
 ghost use Rattle.plan.specs.Plans.{words_of};
 ghost use Rattle.plan.specs.Questions.{fields_fit, interval_fits, shift_fits};
 ghost use Rattle.gatekeys.specs.Parameters.{interval_view, shift_view};
@@ -24,7 +25,7 @@ use key::{BoxNumber, Row, Rows};
 use keyform::{put_interval, put_product, put_shift};
 use masking::Width;
 use masks::{mask_in, words_from};
-use plan::GateBody;
+use plan::{GateBody, GateKind};
 use stored::StoredGroup;
 use tables::blank;
 
@@ -48,11 +49,11 @@ pub fn put_two(writer: &mut Writer, x: u32, y: u32)
 }
 
 // Kind, the wires that are read, and the mask where the gate is shown.
-fn put_head(writer: &mut Writer, kind: u8, a: u8, b: u8, shown: Option<u32>)
-    requires { Room writer.old (head_bytes kind a b shown) }
-    ensures { Put writer.old (head_bytes kind a b shown) writer.new }
+fn put_head(writer: &mut Writer, kind: GateKind, a: u8, b: u8, shown: Option<u32>)
+    requires { Room writer.old (head_bytes (number_of kind) a b shown) }
+    ensures { Put writer.old (head_bytes (number_of kind) a b shown) writer.new }
 {
-    writer.put(&[kind, a, b, u8::from(shown.is_some())]);
+    writer.put(&[kind.number(), a, b, u8::from(shown.is_some())]);
     put_mask(writer, shown);
 }
 
@@ -89,7 +90,7 @@ fn put_before_key(writer: &mut Writer, shown: Option<u32>, body: GateBody)
     ensures { Put writer.old (before_key shown body) writer.new }
 {
     let (a, b) = places(body);
-    put_head(writer, body.kind().number(), a, b, shown);
+    put_head(writer, body.kind(), a, b, shown);
     put_parameters(writer, body);
 }
 
@@ -99,20 +100,14 @@ fn interval_of(width: Width, p: u32, q: u32) -> Interval
     requires { interval_fits width.bits p q ≡ true }
     ensures { interval_view result ≡ (width.bits, p, q) }
 {
-    let Ok(interval) = Interval::new(width, p, q) else {
-        unreachable()
-    };
-    interval
+    Interval::new(width, p, q).unwrap()
 }
 
 fn shift_of(width: Width, s: u8) -> Shift
     requires { shift_fits width.bits s ≡ true }
     ensures { shift_view result ≡ (width.bits, s) }
 {
-    let Ok(shift) = Shift::new(width, s) else {
-        unreachable()
-    };
-    shift
+    Shift::new(width, s).unwrap()
 }
 
 // What a dealer has for every gate of a book: the box that the book is for, the width, and the masks of all wires.
@@ -126,6 +121,7 @@ pub struct Dealer<'a, X> {
 
 impl<'a, X: Expander> Dealer<'a, X> {
     // The key of a gate on one interval. Its rows are dealt into this memory.
+    // Stays: the memory is the caller's, who knows the group: the size of `[Row<G>; 32]` has no bound here.
     fn put_on_interval<G: Shared + StoredGroup, T: IntervalGate<G>>(
         &self,
         writer: &mut Writer,
@@ -144,9 +140,7 @@ impl<'a, X: Expander> Dealer<'a, X> {
             (rows_of X.Expander.meaning G.Group.group G.Group.mean d n) writer.new }
     {
         let mut rows = Rows::over(&mut memory[0..self.width.bits() as usize]);
-        let Ok(key) = deal_interval(self.expander, self.number, gate, &mut rows) else {
-            unreachable()
-        };
+        let key = deal_interval(self.expander, self.number, gate, &mut rows).unwrap();
         put_interval(writer, key.parts(), rows.as_slice());
     }
 
@@ -162,9 +156,7 @@ impl<'a, X: Expander> Dealer<'a, X> {
             low: Rows::over(&mut low[0..gate.shift.by() as usize]),
             high: Rows::over(&mut high[0..gate.shift.width().bits() as usize]),
         };
-        let Ok(key) = deal_shift(self.expander, self.number, gate, &mut rows) else {
-            unreachable()
-        };
+        let key = deal_shift(self.expander, self.number, gate, &mut rows).unwrap();
         put_shift(
             writer,
             key.parts(),

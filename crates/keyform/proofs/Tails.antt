@@ -7,7 +7,6 @@ use Rattle.layout.specs.Keys.{compared_bytes}
 use Rattle.keyform.specs.Forms.{flag_form}
 use Rattle.key.specs.declared.KeyEnds.{KeyEnds}
 use Rattle.keyform.specs.Reads.{LastIn, LastRead, KeyIn, KeyRead}
-use Rattle.keyform.specs.declared.gate_keys.Tail.{Tail}
 use Rattle.keyform.specs.GateKeys.{TailIn, TailRead, tail_bytes, IntervalIn, IntervalRead}
 use Rattle.keyform.proofs.Forms.{flag_sized}
 use Rattle.keyform.proofs.Ends.{before_last}
@@ -54,7 +53,7 @@ module _ {M : Type 0} (form : M → List ℕ) where
   -- the tail from its parts
   pub tail_read : (bytes elements keyed key : List ℕ) (payload extra : M) (out : Flags)
       → LastRead flag_form bytes elements out → LastRead form elements keyed extra → LastRead form keyed key payload
-      → TailRead form bytes key (record { payload = payload; extra = extra; out = out.0 })
+      → TailRead form bytes key payload extra out.0
   tail_read bytes elements keyed key payload extra out o x p = record {
     same = sym (append_assoc key (form payload) (form extra ++ flag_form out))
         ∙ sym (append_assoc (key ++ form payload) (form extra) (flag_form out))
@@ -71,23 +70,24 @@ module _ {M : Type 0} (form : M → List ℕ) where
   }
 
   -- a key, then a tail
-  pub interval_in : (n : ℕ) (bytes key : List ℕ) (t : Tail M) → TailRead form bytes key t → KeyIn form n key
-      → IntervalIn form n bytes
-  interval_in n bytes key t r k = record {
+  pub interval_in : (n : ℕ) (bytes key : List ℕ) (payload extra : M) (out : ℕ)
+      → TailRead form bytes key payload extra out → KeyIn form n key → IntervalIn form n bytes
+  interval_in n bytes key payload extra out r k = record {
     key = record { root = k.root; rows = k.rows; last = k.last };
-    payload = t.payload;
-    extra = t.extra;
-    out = t.out;
+    payload = payload;
+    extra = extra;
+    out = out;
     count = k.count;
-    same = ap (λ x. x ++ tail_bytes form t.payload t.extra t.out) k.same ∙ r.same;
+    same = ap (λ x. x ++ tail_bytes form payload extra out) k.same ∙ r.same;
   }
 
-  pub interval_read : (n : ℕ) (bytes key : List ℕ) (t : Tail M) (rows : List (Row M)) (ends : KeyEnds M)
-      → TailRead form bytes key t → KeyRead form n key ends.root rows ends.last
-      → IntervalRead form n bytes rows (record { ends = ends; payload = t.payload; extra = t.extra; out = t.out })
-  interval_read n bytes key t rows ends r k = record {
+  pub interval_read : (n : ℕ) (bytes key : List ℕ) (payload extra : M) (out : ℕ) (rows : List (Row M))
+      (ends : KeyEnds M)
+      → TailRead form bytes key payload extra out → KeyRead form n key ends.root rows ends.last
+      → IntervalRead form n bytes rows (record { ends = ends; payload = payload; extra = extra; out = out })
+  interval_read n bytes key payload extra out rows ends r k = record {
     count = k.count;
-    same = ap (λ x. x ++ tail_bytes form t.payload t.extra t.out) k.same ∙ r.same;
+    same = ap (λ x. x ++ tail_bytes form payload extra out) k.same ∙ r.same;
     whole = k.whole;
     words = k.words;
   }
@@ -112,12 +112,12 @@ module _ {M : Type 0} (form : M → List ℕ) (z : ℕ) (sized : (a : M) → len
       )
 
   -- the key that stands before the tail
-  pub before_tail : (n : ℕ) (bytes key : List ℕ) (t : Tail M) → TailRead form bytes key t → IntervalIn form n bytes
-      → KeyIn form n key
-  before_tail n bytes key t r i =
+  pub before_tail : (n : ℕ) (bytes key : List ℕ) (payload extra : M) (out : ℕ)
+      → TailRead form bytes key payload extra out → IntervalIn form n bytes → KeyIn form n key
+  before_tail n bytes key payload extra out r i =
       let a = compared_bytes form i.key in
       let b = tail_bytes form i.payload i.extra i.out in
-      let d = tail_bytes form t.payload t.extra t.out in
+      let d = tail_bytes form payload extra out in
       let both : a ++ b ≡ key ++ d = i.same ∙ sym r.same in
       let long : length a ≡ length key = omega (
         arith,
@@ -125,7 +125,7 @@ module _ {M : Type 0} (form : M → List ℕ) (z : ℕ) (sized : (a : M) → len
         length-append a b,
         length-append key d,
         tail_long i.payload i.extra i.out,
-        tail_long t.payload t.extra t.out,
+        tail_long payload extra out,
       ) in
       record {
         root = i.key.root;

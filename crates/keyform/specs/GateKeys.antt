@@ -5,7 +5,6 @@ use Rattle.stored.specs.Forms.{four_bytes}
 use Rattle.layout.specs.Keys.{Compared, compared_bytes}
 use Rattle.layout.specs.Wires.{interval_bytes}
 use Rattle.keyform.specs.Reads.{Whole, WholeRows, KeyIn}
-use Rattle.keyform.specs.declared.gate_keys.Tail.{Tail}
 use Rattle.keyform.specs.declared.gate_keys.IntervalParts.{IntervalParts}
 use Rattle.keyform.specs.declared.gate_keys.ShiftParts.{ShiftParts}
 
@@ -21,8 +20,9 @@ pub record TailIn {M : Type 0} (form : M → List ℕ) (bytes : List ℕ) : Type
   pub same : front ++ tail_bytes form payload extra out ≡ bytes
 
 -- the tail, and what stands before it
-pub record TailRead {M : Type 0} (form : M → List ℕ) (bytes front : List ℕ) (t : Tail M) : Type 0 where
-  pub same : front ++ tail_bytes form t.payload t.extra t.out ≡ bytes
+pub record TailRead {M : Type 0} (form : M → List ℕ) (bytes front : List ℕ) (payload extra : M) (out : ℕ)
+    : Type 0 where
+  pub same : front ++ tail_bytes form payload extra out ≡ bytes
 
 -- a comparison key from its rows and the rest
 abbrev pub interval_key : {M : Type 0} → List (Row M) → IntervalParts M → Compared M

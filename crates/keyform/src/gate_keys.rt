@@ -80,39 +80,23 @@ pub fn put_product(writer: &mut Writer, parts: ProductParts)
 
 // Reading.
 
-// What follows the comparison key of an interval gate.
-#[derive(Clone, Copy)]
-struct Tail<G> {
-    payload: G,
-    extra: G,
-    out: u32,
-}
-
-// Payload part, E part and mask part at the end of these bytes behind what stands before them, or `None` where none end
-// them.
-fn read_tail<G: StoredGroup>(bytes: &[u8]) -> Option<(&[u8], Tail<G>)>
+// What stands before payload part, E part and mask part at the end of these bytes, and these three, or `None` where
+// none end them.
+fn read_tail<G: StoredGroup>(bytes: &[u8]) -> Option<(&[u8], G, G, u32)>
     ensures { MatchOption result (TailIn G.StoredGroup.form bytes.now → ⊥)
-        (λ t. TailRead G.StoredGroup.form bytes.now t.0.now t.1) }
+        (λ t. TailRead G.StoredGroup.form bytes.now t.0.now t.1 t.2 t.3) }
 {
     let (elements, out) = read_last::<Flags>(bytes)?;
     let (keyed, extra) = read_last(elements)?;
     let (key, payload) = read_last(keyed)?;
-    let out = out.0;
-    Some((
-        key,
-        Tail {
-            payload,
-            extra,
-            out,
-        },
-    ))
+    Some((key, payload, extra, out.0))
 }
 
 // Does a key of an interval gate with so many rows have these bytes?
 pub fn interval_fits<G: StoredGroup>(bytes: &[u8], count: usize) -> bool
     ensures { Decides result (IntervalIn G.StoredGroup.form count bytes.now) }
 {
-    read_tail::<G>(bytes).is_some_and(|(key, _)| key_fits::<G>(key, count))
+    read_tail::<G>(bytes).is_some_and(|(key, ..)| key_fits::<G>(key, count))
 }
 
 // Reads the key of an interval gate, of as many rows as the table has. Where no key has these bytes the table stays.
@@ -121,13 +105,13 @@ pub fn read_interval<G: StoredGroup>(bytes: &[u8], rows: &mut Rows<G>) -> Option
         rows.old.rows.now rows.new.rows.now result }
     ensures same { rows.new.rows.ghost_name ≡ rows.old.rows.ghost_name }
 {
-    let (key, tail) = read_tail(bytes)?;
+    let (key, payload, extra, out) = read_tail(bytes)?;
     let ends = read_key(key, rows)?;
     Some(IntervalParts {
         ends,
-        payload: tail.payload,
-        extra: tail.extra,
-        out: tail.out,
+        payload,
+        extra,
+        out,
     })
 }
 

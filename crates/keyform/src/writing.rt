@@ -10,6 +10,7 @@ use group::Group;
 use key::{KeyEnds, Row};
 use stored::StoredGroup;
 
+// Stays: the element writes itself into the next bytes of the buffer, which no method of the writer lends.
 pub fn put_element<G: StoredGroup>(writer: &mut Writer, element: G)
     requires { Room writer.old (G.StoredGroup.form element) }
     ensures { Put writer.old (G.StoredGroup.form element) writer.new }

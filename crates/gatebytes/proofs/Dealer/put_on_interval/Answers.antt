@@ -3,7 +3,7 @@ use Rattle.key.specs.Rows.{is_one}
 use Rattle.gates.specs.Interval.{key_of, rows_of}
 use Rattle.buffers.proofs.Puts.{put_as, room_as}
 use Rattle.gatebytes.specs.Keyed.{interval_key_bytes}
-use Rattle.gatebytes.proofs.Asked.{cut_long, unsaid, rows_yes}
+use Rattle.gatebytes.proofs.Asked.{cut_long}
 use Rattle.gatebytes.proofs.Meanings.{parts_bytes, interval_dealt}
 use Rattle.gatebytes.proofs.Dealer.put_on_interval.Goals as goal
 use Rattle.gatebytes.proofs.Dealer.put_on_interval.Given as given
@@ -19,19 +19,14 @@ meant : (g : given.Over) (c : After-as_slice g) (stored : g.G.Group.Meaning → 
     (rows_of g.X.Expander.meaning g.G.Group.group g.G.Group.mean d n))
 meant g c stored same =
     let d = g.T.IntervalGate.deal c.args.gate.now in
-    let h = c.in-Ok.ensures in
+    let h = c.deal_interval.ensures in
     let long = cut_long _ c.args.self.now.width.bits _ _ c.over-rows.ensures.rows c.bits.ensures (omega arith) ∙ sym c.requires.width in
-    interval_dealt g.G.StoredGroup.form stored g.G.Group.mean same c.in-Ok.key _ _ _ _ _ _ _ long h.key h.rows
+    interval_dealt g.G.StoredGroup.form stored g.G.Group.mean same _ c.unwrap-key.result _ _ _ _ _ _ _ _ c.unwrap-key.ensures long h.key h.rows
     c.parts.ensures c.as_slice.ensures
     ∙ ap (λ n. interval_key_bytes stored
     (key_of g.X.Expander.meaning g.G.Group.group g.G.Group.mean d c.args.self.now.number
     (g.T.IntervalGate.out_part c.args.gate.now (is_one c.args.self.now.number)) n)
     (rows_of g.X.Expander.meaning g.G.Group.group g.G.Group.mean d n)) c.requires.width
-
-pub unreachable-requires : goal.unreachable-requires
-unreachable-requires g c =
-    let long = cut_long _ c.args.self.now.width.bits _ _ c.over-rows.ensures.rows c.bits.ensures (omega arith) ∙ sym c.requires.width in
-    unsaid _ _ _ c.in_default.ensures.key (rows_yes _ _ _ long)
 
 pub put_interval-requires : goal.put_interval-requires
 put_interval-requires g c =

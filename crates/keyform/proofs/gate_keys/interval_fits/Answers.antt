@@ -13,6 +13,6 @@ returns g c =
     (λ none i. none (tail_in s.form n bytes i))
     (λ t r p.
     let fit : Decides c.is_some_and.result (KeyIn s.form n t.0.now) = search rules in (
-      λ h. interval_in s.form n bytes t.0.now t.1 r (fit.0 h),
-      λ i. fit.1 (before_tail s.form s.size g.met.G.StoredGroup.sized n bytes t.0.now t.1 r i),
+      λ h. interval_in s.form n bytes t.0.now t.1 t.2 t.3 r (fit.0 h),
+      λ i. fit.1 (before_tail s.form s.size g.met.G.StoredGroup.sized n bytes t.0.now t.1 t.2 t.3 r i),
     ))

@@ -14,6 +14,6 @@ returns-in_err-ends-clause-read g c =
     let kept = c.in_err-ends.ensures in
     rw c.from_residual-in_err-ends.ensures (
       λ i. kept.read.0 (before_tail s.form s.size g.met.G.StoredGroup.sized n c.args.bytes.now c.in_ok-key.key.now
-          c.in_ok-key.tail c.in_ok-key.ensures i),
+          c.in_ok-key.payload c.in_ok-key.extra c.in_ok-key.out c.in_ok-key.ensures i),
       kept.read.1,
     )
