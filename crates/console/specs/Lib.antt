@@ -1,3 +1,4 @@
 pub mod Remembered
 pub mod Kinds
+pub mod Local
 pub mod Said

@@ -1,5 +1,6 @@
 // Orders about gates: dealing one, and holding values at it.
 ghost use Rattle.std.specs.Prelude.{◌≡◌, min, length};
+ghost use Rattle.console.specs.Local.{local_mask};
 
 use crate::kinds::{Task, with_expander};
 use crate::show::{print_common, table};
@@ -30,7 +31,8 @@ fn print_mask(rt: &HostRuntime, mask: u32) -> io::Result<()> {
 }
 
 // One box's part of an interval gate's key.
-// Stays: boxes are numbers here and below, since they are printed as such.
+// Stays: a box is printed as its number here and below; a `Display` of `BoxNumber` would be no plainer than the two
+// literals.
 fn print_interval_parts<G: Group + fmt::Display>(
     rt: &HostRuntime,
     number: u8,
@@ -110,7 +112,9 @@ fn deal_product_gate(rt: &HostRuntime, gate: &ProductGate) -> Result<(), Stop> {
 }
 
 // The mask of a local gate's output.
-fn local_mask(job: LocalJob) -> u32 {
+fn local_mask(job: LocalJob) -> u32
+    ensures { result ≡ local_mask job }
+{
     match job {
         LocalJob::Sum { width, mask, mask2 } => width.sum(mask, mask2),
         LocalJob::Scale { width, mask, c, .. } => width.scale_mask(c, mask),
@@ -202,6 +206,7 @@ impl Holding<'_> {
     }
 
     // A gate on one interval, by its meaning on a plain value.
+    // Stays: the memory is the caller's, who knows the group: the size of `[Row<G>; 32]` has no bound here.
     fn interval<X: Expander, G: Shared, T: IntervalGate<G>, F: FnOnce(Reading) -> Reading>(
         self,
         expander: &X,

@@ -1,5 +1,7 @@
 // Why a line is not carried out, and how that is said.
 ghost use Rattle.std.specs.Prelude.{◌≡◌, Err};
+ghost use Rattle.std.specs.IoError.{error_kind};
+ghost use Rattle.std.specs.declared.io.ErrorKind.TheVariants.{OutOfMemory};
 ghost use Rattle.console.specs.declared.stop.Stop.TheVariants as stop;
 ghost use Rattle.console.specs.Said.{said};
 
@@ -58,6 +60,8 @@ impl From<io::Error> for Stop {
 }
 
 impl From<AllocError> for Stop {
+    ghost from_gives = { λ _ s. (error : _) × (s ≡ stop.Io error) × (error_kind error ≡ OutOfMemory) };
+
     fn from(error: AllocError) -> Stop {
         Stop::Io(error.into())
     }

@@ -44,6 +44,7 @@ fn print_book(rt: &HostRuntime, book: &[u8], whole: bool) -> Result<(), Stop> {
 }
 
 // Says what is in a book, unless it is refused at a box with an expander of this kind.
+// Stays: the kind is a byte here and below, as `check_book` is asked: about any.
 pub fn read_and_print(rt: &HostRuntime, kind: u8, book: &[u8], whole: bool) -> Result<(), Stop> {
     check_book(kind, book)?;
     print_book(rt, book, whole)
@@ -60,7 +61,7 @@ fn print_dealt(rt: &HostRuntime, kind: u8, book: &[u8], whole: bool) -> Result<(
 }
 
 // One box's book of the plan that was read.
-// Stays: the box is a byte, since `deal` is asked about any.
+// Stays: the box is a byte here and below, as `deal` is asked: about any.
 fn deal_one<X: Expander>(
     expander: &X,
     draft: &Draft,

@@ -8,7 +8,7 @@ use crate::number::Number;
 use crate::text::{number_of, piece_at, pieces_of, word_at};
 use crate::types::{Fault, Group, Kind, Payload, Wrong};
 
-// Stays: functions that read a word, and no `TryFrom`, since `field` is handed them by name.
+// Stays: `TryFrom<&[u8]>` would say no more than this and the next function do, and its error is the same.
 pub fn kind_of(word: &[u8]) -> Result<Kind, Wrong>
     ensures { result ≡ kind_of word.now }
 {
@@ -63,9 +63,8 @@ pub fn field<T: Drop, F: FnOnce(&[u8]) -> Result<T, Wrong>>(
 pub fn number_at<N: Number>(line: &[u8], n: usize) -> Result<N, Fault>
     ensures { result ≡ field (number_of N.held N.MOST) (words line.now) n }
 {
-    // Stays: two lines, and not `field(line, n, number_of)`: a function of a type parameter that is passed gets no proof.
-    let number_word = word_at(line, n);
-    placed(number_word, n, number_of(number_word))
+    // Stays: a closure around the function: by its name, a function of a type parameter that is passed gets no proof.
+    field(line, n, |word| number_of(word))
 }
 
 // No word number `n`: then all is read, and `x` is what was read.
@@ -110,6 +109,7 @@ pub fn payload_of(group: Group, word: &[u8]) -> Result<Payload, Wrong>
         Group::Words => Ok(Payload::Words(number_part(word, 0)?)),
         Group::Flags => Ok(Payload::Flags(number_part(word, 0)?)),
         Group::Pair => Ok(Payload::Pair(number_part(word, 0)?, number_part(word, 1)?)),
+        // Stays: the four are fields of a variant; an array of them would only be taken apart again.
         Group::Quad => Ok(Payload::Quad(
             number_part(word, 0)?,
             number_part(word, 1)?,

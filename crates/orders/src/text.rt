@@ -35,6 +35,7 @@ pub fn word_at(line: &[u8], n: usize) -> &[u8]
         .unwrap_or(&[])
 }
 
+// Stays: here and at `all_hex` it is one line of `all`; one function of both over the test would be `all` again.
 fn all_digits(word: &[u8]) -> bool
     ensures { result ≡ digits word.now }
 {
@@ -89,11 +90,10 @@ pub fn number_of<N: Number>(word: &[u8]) -> Result<N, Wrong>
 pub fn hex_digit(b: u8) -> Result<u8, Wrong>
     ensures { result ≡ hex_of b }
 {
-    // Stays: a closure would not know that the digit fits a byte.
-    match (b as char).to_digit(16) {
-        Some(digit) => Ok(digit as u8),
-        None => Err(Wrong::NotHex),
-    }
+    (b as char)
+        .to_digit(16)
+        .map(|digit| digit as u8)
+        .ok_or(Wrong::NotHex)
 }
 
 // A hex digit's value, 0 for any other byte.

@@ -23,6 +23,7 @@ pub struct DealOrder {
     pub width: u8,
     pub threshold: u32,
     pub payload: Payload,
+    // Stays: not the roots of `key`, which a parser of lines does not read: they are the seeds of two words.
     pub root0: Seed,
     pub root1: Seed,
 }
@@ -35,6 +36,9 @@ pub struct GateOrder {
     pub body: GateBody,
 }
 
+// What a line says of a gate: numbers that fit their types, and nothing is asked of them yet.
+// Stays: not the gates of `gatekeys`, which `orders` does not read: those have their questions answered, and with a
+// shared enum a parser of lines would stand on masks and shares.
 #[derive(Clone, Copy)]
 pub enum GateBody {
     Piece {
@@ -81,7 +85,8 @@ pub enum GateBody {
     },
 }
 
-// Which gate.
+// Which gate, as a word of a line names it.
+// Stays: not the kinds of `plan`, which `orders` does not read: words of a line and numbers of a book are apart.
 #[derive(Clone, Copy)]
 pub enum GateName {
     Piece,

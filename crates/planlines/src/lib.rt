@@ -39,6 +39,8 @@ fn words_line(line: &[u8]) -> Result<PlanLine, Fault>
 fn books_line(line: &[u8], whole: bool) -> Result<PlanLine, Fault>
     ensures { result ≡ books_of whole (words line.now) }
 {
+    // Stays: here, in `book_line` and in `rows`, a closure around the function: a function of another crate that is
+    // handed by name has no contract; that was tried.
     let kind = field(line, 2, |word| kind_of(word))?;
     let deal = number_at(line, 3)?;
     let room = room_at(line, 4)?;

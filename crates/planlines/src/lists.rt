@@ -9,6 +9,7 @@ use orders::{Wrong, decimal, hex_digit, hex_pair, piece_at, pieces_of};
 pub fn numbers_in(word: &[u8], most: u64) -> Result<usize, Wrong>
     ensures { result ≡ numbers_in most word.now }
 {
+    // Stays: a loop that ends at the first wrong number by `?`, as `digits_read` at the first wrong digit.
     for piece in word.split(|b| *b == b',') {
         decimal(piece, most)?;
     }
