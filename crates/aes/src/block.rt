@@ -11,6 +11,7 @@ use std::simd::u32x4;
 pub struct Block(pub [u32; 4]);
 
 // The word in the four bytes from byte i on.
+// Stays: the first byte is the highest here and the lowest in `chacha`; a name for either would be no plainer.
 fn word_at(bytes: &[u8; 16], i: usize) -> u32
     requires { i + 4 ≤ 16 }
     ensures { word_bytes result ≡ take 4 (drop i bytes.now) }

@@ -160,6 +160,7 @@ impl Task for Dealing<'_> {
 }
 
 // Deals a gate at both boxes and prints what each is given.
+// Stays: as `key_jobs::deal` hands a key's task on, this hands a gate's; what they share is `with_expander`.
 pub fn deal(rt: &HostRuntime, order: &GateOrder) -> Result<(), Stop> {
     let job = job_of(order)?;
     with_expander(order.kind, Dealing { rt, job })
