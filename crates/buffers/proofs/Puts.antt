@@ -72,9 +72,6 @@ pub record Owes (start : Writer) (bs : List ℕ) (w : Writer) (rest : List ℕ) 
   pub fits : start.at + length bs ≤ length start.out.now
   pub same : w.out.ghost_name ≡ start.out.ghost_name
 
-pub owes_all : (w : Writer) (bs : List ℕ) → Room w bs → Owes w bs w bs
-owes_all w bs h = record { after = refl; ends = refl; long = refl; fits = h.fits; same = refl }
-
 pub owes_less : {start w w1 : Writer} {bs a rest : List ℕ} → Owes start bs w (a ++ rest) → Put w a w1 → Owes start bs w1 rest
 owes_less {start} {w} {w1} {bs} {a} {rest} o p =
     let s = length-append a rest in
@@ -104,13 +101,6 @@ room_next {w} {w1} {a} rest p h =
     let f = h.fits in
     record { fits = omega (arith, length-append a rest) }
 
-pub room_owed : {start w : Writer} {bs : List ℕ} (a rest : List ℕ) → Owes start bs w (a ++ rest) → Room w a
-room_owed a rest o =
-    let e = o.ends in
-    let f = o.fits in
-    let l = o.long in
-    record { fits = omega (arith, length-append a rest) }
-
 pub put_as : {w w1 : Writer} {a b : List ℕ} → a ≡ b → Put w a w1 → Put w b w1
 put_as {w} e p = rw (← e) p
 
@@ -119,10 +109,6 @@ owes_as e o = rw (← e) o
 
 pub room_as : {w : Writer} {a b : List ℕ} → a ≡ b → Room w a → Room w b
 room_as e p = rw (← e) p
-
--- the room for a first part that is `b` in the code and `a` in the definition
-pub room_first_as : {w : Writer} (a rest b : List ℕ) → a ≡ b → Room w (a ++ rest) → Room w b
-room_first_as a rest b e h = room_as e (room_first a rest h)
 
 pub put_none : (w : Writer) → w.at ≤ length w.out.now → Put w [] w
 put_none w h = record { after = sym (put_at_none w.out.now w.at); next = sym (add-zero w.at); fits = rw add-zero h; same = refl }

@@ -1,5 +1,5 @@
 -- A gate's bytes by what is written: before the key, and the key by the gate's own definition.
-use Rattle.std.proofs.Common.{◌≡◌, ℕ, Bool, true, false, ◌&&◌, List, [], ◌∷◌, ◌++◌, get_or, Option, sym, refl, ap, ◌∙◌, append_assoc, ◌⊎◌, inl, inr}
+use Rattle.std.proofs.Common.{◌≡◌, ℕ, Bool, List, [], ◌∷◌, ◌++◌, get_or, Option, sym, ap, ◌∙◌, append_assoc, ◌⊎◌, inl, inr}
 use Rattle.stored.specs.Forms.{four_bytes}
 use Rattle.expander.specs.Meaning.{Expansion}
 use Rattle.key.specs.declared.BoxNumber.{BoxNumber}
@@ -18,10 +18,6 @@ use Rattle.gates.specs.Piece.{dealt_piece_key, piece_rows}
 use Rattle.gates.specs.Flag.{dealt_flag_key, flag_rows}
 use Rattle.layout.specs.Keys.{quad_bytes, flag_bytes}
 use Rattle.gatebytes.specs.Keyed.{interval_key_bytes, shift_key_bytes, piece_bytes, flag_gate_bytes, shift_gate_bytes}
-
-pub and_left : (a b : Bool) → (a && b) ≡ true → a ≡ true
-and_left true b h = refl
-and_left false b h = h
 
 -- the key that each arm writes is the gate's key: of a gate `body` for the masks ms, from its own random words on
 module _ (x : Expansion) (b : BoxNumber) (n : ℕ) (ms words : List ℕ) where
