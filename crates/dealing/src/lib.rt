@@ -154,7 +154,7 @@ pub fn deal<X: Expander, G: Group>(
 {
     let count = rows.count();
     let mut at = Descent::begin(roots);
-    // Stays: a `zip` with the reversed range was tried; its proof didn't close, since past an adapter of `iter_mut` other than
+    // Stays: a `zip` with the reversed range was tried; its proof didn't close, since after any adapter of `iter_mut` but
     // `enumerate` nothing is known of the rows.
     for (i, row) in rows.rows.iter_mut().enumerate() {
         let bit = bit_at(threshold, count - 1 - i);
