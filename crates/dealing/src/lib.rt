@@ -154,8 +154,8 @@ pub fn deal<X: Expander, G: Group>(
 {
     let count = rows.count();
     let mut at = Descent::begin(roots);
-    // Stays: a `zip` with the reversed range was tried; its proof didn't close, since past an adapter of `iter_mut` other than
-    // `enumerate` nothing is known of the rows.
+    // Stays: a `zip` with the reversed range was tried; its proof didn't close: after that loop nothing is known of the rows
+    // but their number, as after each adapter of `iter_mut` save `enumerate`.
     for (i, row) in rows.rows.iter_mut().enumerate() {
         let bit = bit_at(threshold, count - 1 - i);
         let b0 = expander.branch(at.seed0);

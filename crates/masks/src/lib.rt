@@ -28,8 +28,8 @@ pub fn words_from<const K: usize>(words: &[u64]) -> [u64; K]
 }
 
 // A wire's mask in the table.
-// Stays: no heap in a box, so the masks are a table of fixed size; one function for this, `word_in` and the byte of `bodies`
-// would have to be told its zero.
+// Stays: no heap in a box, so the masks are a table of fixed size; one function for this, `word_in` and the byte of
+// `bodies` would have to be told its zero.
 pub fn mask_in(masks: &[u32; 48], wire: usize) -> u32
     ensures { result ≡ slice_index masks.now wire }
 {
