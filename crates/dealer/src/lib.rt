@@ -44,7 +44,7 @@ fn put_input(writer: &mut Writer, owner: u8, mask: Option<u32>)
 
 // The body of a wire in the book of box `number`, from its own random words on: an input's mask is for its owner only, a
 // gate's is given where it is shown.
-// Stays: `number` is a byte, since it is compared with owners.
+// Stays: `number` is a byte as owners are; the `BoxNumber` in `dealer` would be turned back into one here, no plainer.
 fn put_wire<X: Expander>(
     writer: &mut Writer,
     dealer: &Dealer<X>,
@@ -71,7 +71,7 @@ fn put_wire<X: Expander>(
 #[derive(Clone, Copy)]
 struct Book<'a> {
     plan: CheckedPlan<'a>,
-    // Stays: a byte, since it is compared with owners and written into the book.
+    // Stays: a byte, compared with owners and written into the book; a `BoxNumber` would be turned back into one at each.
     number: u8,
 }
 
