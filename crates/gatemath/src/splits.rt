@@ -31,6 +31,7 @@ pub fn flags_part(number: BoxNumber, all: u32, random: u64) -> u32
 }
 
 // A number if a test holds, otherwise 0.
+// Stays: as `once` is for elements; a number is no element of a group here.
 pub(crate) fn number_if(yes: bool, number: u64) -> u64
     ensures { result ≡ cond yes number 0 }
 {

@@ -124,6 +124,7 @@ fn word_key_size(count: usize) -> usize
         .saturating_add(16 + Word::size_of())
 }
 
+// Stays: both counts of rows beside the bytes; a struct of two counts would be made at each call and taken apart here.
 // The bytes of two comparison keys in words, with so many rows, or `None` where no keys have these bytes.
 fn two_keys(bytes: &[u8], low: usize, high: usize) -> Option<(&[u8], &[u8])>
     ensures { MatchOption result (TwoIn word_form low high bytes.now → ⊥)

@@ -106,6 +106,7 @@ impl Masked {
 }
 
 // The XOR of flags, of held values or of masks.
+// Stays: a gate by its name, as the sum is; `^` would not say that both are flags.
 pub fn xor(a: u32, b: u32) -> u32
     ensures { result ≡ xor_of a b }
 {
