@@ -11,7 +11,7 @@ use plan::GateKind;
 use std::array;
 
 // The byte at a place; 0 past the end.
-// Stays: at a byte what `masks` has at a word; one for both would have to be told its zero.
+// Stays: at a byte what `masks` has at a word; a clause for any type by its default would be no plainer than `slice_index`.
 pub fn byte_in(bytes: &[u8], at: usize) -> u8
     ensures { result ≡ slice_index bytes.now at }
 {

@@ -22,8 +22,8 @@ use plan::{CheckedPlan, Plan, PlanWire};
 use refusal::Refusal;
 
 // The box that a book is for.
-// Stays: past the questions a number is 0 or 1, so a `TryFrom` (in `key`, whose type it is) would have an error that
-// cannot be.
+// Stays: past the questions a number is 0 or 1; a `TryFrom` in `key` with an error of its own, for this one caller, would be
+// longer.
 fn box_of(number: u8) -> BoxNumber
     ensures { is_one result ≡ (number == 1) }
 {

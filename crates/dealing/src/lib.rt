@@ -24,7 +24,7 @@ fn control_after(control: bool, bit: bool, row_bit: bool) -> bool
 }
 
 // Both boxes on the way to the threshold: their seeds, their control bits, and by what their sums are apart.
-// Stays: as the rules name them; a struct of a seed and a bit would be made anew at every step, which is no plainer.
+// Stays: as the rules name them; definitions and proofs speak of the four apart, so that a struct between would be no plainer.
 #[derive(Clone, Copy)]
 pub struct Descent<G> {
     pub seed0: Seed,

@@ -124,8 +124,8 @@ fn word_key_size(count: usize) -> usize
         .saturating_add(16 + Word::size_of())
 }
 
-// Stays: both counts of rows beside the bytes; a struct of two counts would be made at each call and taken apart here.
 // The bytes of two comparison keys in words, with so many rows, or `None` where no keys have these bytes.
+// Stays: both counts of rows beside the bytes; a struct of two counts would be made at each call and taken apart here.
 fn two_keys(bytes: &[u8], low: usize, high: usize) -> Option<(&[u8], &[u8])>
     ensures { MatchOption result (TwoIn word_form low high bytes.now → ⊥)
         (λ t. TwoRead word_form low high bytes.now t.0.now t.1.now) }

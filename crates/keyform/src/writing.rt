@@ -10,7 +10,8 @@ use group::Group;
 use key::{KeyEnds, Row};
 use stored::StoredGroup;
 
-// Stays: the element writes itself into the next bytes of the buffer, which no method of the writer lends.
+// Writes an element, which fills the buffer's next bytes itself.
+// Stays: a method of the writer that lends these bytes, for this one caller, would be no plainer.
 pub fn put_element<G: StoredGroup>(writer: &mut Writer, element: G)
     requires { Room writer.old (G.StoredGroup.form element) }
     ensures { Put writer.old (G.StoredGroup.form element) writer.new }

@@ -13,7 +13,7 @@ use plan::{GateBody, Plan, PlanWire};
 use std::array;
 
 // A random word; 0 past the last.
-// Stays: at a word what `bodies` has at a byte; one for both would have to be told its zero.
+// Stays: at a word what `bodies` has at a byte; a clause for any type by its default would be no plainer than `slice_index`.
 fn word_in(words: &[u64], i: usize) -> u64
     ensures { result ≡ slice_index words.now i }
 {
@@ -28,8 +28,8 @@ pub fn words_from<const K: usize>(words: &[u64]) -> [u64; K]
 }
 
 // A wire's mask in the table.
-// Stays: no heap in a box, so the masks are a table of fixed size; one function for this, `word_in` and the byte of
-// `bodies` would have to be told its zero.
+// Stays: no heap in a box, so the masks are a table of fixed size; one function for this and `word_in` would need a clause by
+// the default of a type, which is no plainer.
 pub fn mask_in(masks: &[u32; 48], wire: usize) -> u32
     ensures { result ≡ slice_index masks.now wire }
 {
@@ -61,9 +61,9 @@ fn wire_mask(width: Width, masks: &[u32; 48], word: u64, wire: PlanWire) -> u32
     }
 }
 
+// The masks of all wires. Each wire takes its random words from the front of what the wires below it leave.
 // Stays: a plan and a width; a CheckedPlan would ask more of callers than the masks need, and no function may come to ask
 // more.
-// The masks of all wires. Each wire takes its random words from the front of what the wires below it leave.
 pub fn masks_of(width: Width, plan: Plan, words: &[u64]) -> [u32; 48]
     requires { (length plan.owners.now + length plan.rows.now ≤ 48) × (plan.width ≡ width.bits) }
     ensures { result ≡ masks (stated plan.entry) words.now }

@@ -9,6 +9,7 @@ use crate::number::Number;
 use crate::text::{pieces_of, word_at};
 use crate::types::{Fault, GateBody, GateName, GateOrder, Order, Wrong};
 
+// Stays: as `kind_of`; `TryFrom` would say no more.
 pub fn gate_name_of(word: &[u8]) -> Result<GateName, Wrong>
     ensures { result ≡ gate_name_of word.now }
 {
