@@ -72,6 +72,9 @@ pub record Owes (start : Writer) (bs : List ℕ) (w : Writer) (rest : List ℕ) 
   pub fits : start.at + length bs ≤ length start.out.now
   pub same : w.out.ghost_name ≡ start.out.ghost_name
 
+pub owes_all : (w : Writer) (bs : List ℕ) → Room w bs → Owes w bs w bs
+owes_all w bs h = record { after = refl; ends = refl; long = refl; fits = h.fits; same = refl }
+
 pub owes_less : {start w w1 : Writer} {bs a rest : List ℕ} → Owes start bs w (a ++ rest) → Put w a w1 → Owes start bs w1 rest
 owes_less {start} {w} {w1} {bs} {a} {rest} o p =
     let s = length-append a rest in
@@ -99,6 +102,13 @@ room_next {w} {w1} {a} rest p h =
     let l = put_long p in
     let i = p.next in
     let f = h.fits in
+    record { fits = omega (arith, length-append a rest) }
+
+pub room_owed : {start w : Writer} {bs : List ℕ} (a rest : List ℕ) → Owes start bs w (a ++ rest) → Room w a
+room_owed a rest o =
+    let e = o.ends in
+    let f = o.fits in
+    let l = o.long in
     record { fits = omega (arith, length-append a rest) }
 
 pub put_as : {w w1 : Writer} {a b : List ℕ} → a ≡ b → Put w a w1 → Put w b w1
