@@ -1,11 +1,24 @@
 -- The element at the end of bytes, and the two ends of a key.
-use Rattle.std.proofs.Common.{◌≡◌, ℕ, List, ◌++◌, length, sym, refl, ap, ◌∙◌, arith, length-append}
+use Rattle.std.proofs.Common.{◌≡◌, ℕ, ◌-◌, ◌≤◌, min, List, ◌++◌, length, drop, sym, refl, ap, ◌∙◌, arith, length-append, drop_at}
 use Rattle.key.specs.declared.KeyEnds.{KeyEnds}
 use Rattle.layout.specs.Keys.{seed_bytes, rows_bytes}
-use Rattle.keyform.specs.Reads.{LastRead, EndsIn, EndsRead, RowsIn, KeyIn}
+use Rattle.keyform.specs.Reads.{LastIn, LastRead, EndsIn, EndsRead, RowsIn, KeyIn}
 use Rattle.keyform.proofs.Told.{same_front, same_back}
 
 module _ {M : Type 0} (form : M → List ℕ) (z : ℕ) (sized : (a : M) → length (form a) ≡ z) where
+  pub last_long : (bytes : List ℕ) → LastIn form bytes → z ≤ length bytes
+  last_long bytes i = omega (arith, sized i.last, length-append i.front (form i.last), ap length i.same)
+
+  -- `size` may stop at a bound of the length
+  pub last_there : (size max : ℕ) (bytes : List ℕ) → size ≡ min z max → length bytes ≤ max → (i : LastIn form bytes)
+      → form i.last ≡ drop (length bytes - size) bytes
+  last_there size max bytes is few i =
+      let s = sized i.last in
+      let l = length-append i.front (form i.last) in
+      let e = ap length i.same in
+      let at : length i.front ≡ length bytes - size = omega arith in
+      sym (drop_at i.front (form i.last) (length bytes - size) at) ∙ ap (drop (length bytes - size)) i.same
+
   -- what stands before the last element
   pub before_last : (bytes front other : List ℕ) (last e : M) → LastRead form bytes front last → other ++ form e ≡ bytes
       → other ≡ front

@@ -1,8 +1,11 @@
 -- How many bytes a comparison key has, where every element has `z`.
-use Rattle.std.proofs.Common.{◌≡◌, ℕ, ◌+◌, ◌*◌, List, [], ◌∷◌, length, sym, suc-mul, zero-mul, arith, length-append}
+use Rattle.std.proofs.Common.{◌≡◌, ℕ, ◌+◌, ◌*◌, List, [], ◌∷◌, length, sym, refl, suc-mul, zero-mul, arith, length-append}
 use Rattle.expander.specs.declared.Seed.{Seed}
 use Rattle.key.specs.declared.Row.{Row}
-use Rattle.layout.specs.Keys.{row_bytes, rows_bytes, key_bytes}
+use Rattle.layout.specs.Keys.{seed_bytes, row_bytes, rows_bytes, key_bytes}
+
+pub seed_long : (s : Seed) → length (seed_bytes s) ≡ 16
+seed_long s = refl
 
 module _ {M : Type 0} (form : M → List ℕ) (z : ℕ) (sized : (a : M) → length (form a) ≡ z) where
   pub row_long : (r : Row M) → length (row_bytes form r) ≡ 17 + z

@@ -1,10 +1,10 @@
 -- The key of a product taken apart: three numbers.
-use Rattle.std.proofs.Common.{◌≡◌, ℕ, List, ◌++◌, ◌∙◌, append_assoc}
+use Rattle.std.proofs.Common.{◌≡◌, ℕ, List, ◌++◌, sym, ap, ◌∙◌, append_assoc}
 use Rattle.group.specs.declared.Flags.{Flags}
 use Rattle.stored.specs.Forms.{four_bytes}
 use Rattle.keyform.specs.Forms.{flag_form}
 use Rattle.keyform.specs.Reads.{LastIn, LastRead}
-use Rattle.keyform.specs.GateKeys.{ProductIn}
+use Rattle.keyform.specs.GateKeys.{ProductIn, three_numbers}
 use Rattle.keyform.proofs.Forms.{flag_sized}
 use Rattle.keyform.proofs.Ends.{before_last}
 
@@ -41,3 +41,10 @@ pub without_second : (bytes one : List ℕ) (second : Flags) → LastRead flag_f
     → four_bytes i.a ≡ one
 without_second bytes one second r i =
     before_last flag_form 4 flag_sized bytes one (four_bytes i.a) second (record { 0 = i.b }) r i.same
+
+pub product_read : (bytes two one : List ℕ) (first second third : Flags) → two ++ flag_form third ≡ bytes
+    → one ++ flag_form second ≡ two
+    → flag_form first ≡ one → three_numbers first.0 second.0 third.0 ≡ bytes
+product_read bytes two one first second third h3 h2 h1 =
+    sym (append_assoc (flag_form first) (flag_form second) (flag_form third))
+    ∙ ap (λ t. (t ++ flag_form second) ++ flag_form third) h1 ∙ ap (λ t. t ++ flag_form third) h2 ∙ h3
