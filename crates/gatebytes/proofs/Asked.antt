@@ -1,5 +1,5 @@
 -- Where every question is answered yes, a call answers and does not refuse.
-use Rattle.std.proofs.Common.{◌≡◌, ℕ, ◌-◌, ◌≤◌, true, eqb, List, length, take, Ok, Result, ap, ◌∙◌, arith, length-take-le}
+use Rattle.std.proofs.Common.{◌≡◌, ℕ, ◌-◌, ◌≤◌, true, eqb, List, length, take, Ok, Err, Result, ap, ◌∙◌, arith, length-take-le}
 use Rattle.std.proofs.lemmas.Bool.Decides.{nat_tests}
 use Rattle.refusal.specs.declared.Refusal.{Refusal}
 use Rattle.refusal.specs.Questions.{answered}
@@ -9,6 +9,9 @@ use Rattle.gates.specs.ShiftQuestions.{shift_row_asks}
 
 pub said : {Y : Type 0} (y z : Y) (r : Result Y Refusal) → Ok y ≡ r → r ≡ Ok z → y ≡ z
 said y z r p q = cc
+
+pub unsaid : {Y : Type 0} (z : Y) (e : Refusal) (r : Result Y Refusal) → Err e ≡ r → r ≡ Ok z → ⊥
+unsaid z e r p q = let f : ◌≡◌ {A = ℕ} 0 1 = cc in omega arith
 
 pub rows_yes : {Y : Type 0} (rows n : ℕ) (y : Y) → rows ≡ n → answered (row_asks rows n) y ≡ Ok y
 rows_yes rows n y h = let t : eqb rows n ≡ true = grind (arith, nat_tests) in rw t
