@@ -7,6 +7,7 @@ use Rattle.key.specs.Rows.{is_one}
 use Rattle.gatekeys.specs.declared.ranges.Interval.{Interval}
 use Rattle.gatekeys.specs.declared.ranges.Shift as range
 use Rattle.gatekeys.specs.Parameters.{interval_view, shift_view}
+use Rattle.masking.specs.declared.width.Width.{Width}
 use Rattle.plan.specs.Plans.{words_of}
 use Rattle.plan.specs.Gates.{GateBody}
 use Rattle.plan.specs.declared.gates.Gate.TheVariants.{Sum, Scale, Product, Piece, Flag, Shift, SignedShift, Xor}
@@ -16,8 +17,9 @@ use Rattle.gatebytes.specs.Dealt.{dealt_gate}
 use Rattle.gatebytes.specs.Heads.{before_key}
 use Rattle.gates.specs.Piece.{dealt_piece_key, piece_rows}
 use Rattle.gates.specs.Flag.{dealt_flag_key, flag_rows}
+use Rattle.gates.specs.Product.{dealt_product}
 use Rattle.layout.specs.Keys.{quad_bytes, flag_bytes}
-use Rattle.gatebytes.specs.Keyed.{interval_key_bytes, shift_key_bytes, piece_bytes, flag_gate_bytes, shift_gate_bytes}
+use Rattle.gatebytes.specs.Keyed.{interval_key_bytes, shift_key_bytes, parts_bytes, piece_bytes, flag_gate_bytes, shift_gate_bytes}
 
 -- the key that each arm writes is the gate's key: of a gate `body` for the masks ms, from its own random words on
 module _ (x : Expansion) (b : BoxNumber) (n : ℕ) (ms words : List ℕ) where
@@ -42,6 +44,13 @@ module _ (x : Expansion) (b : BoxNumber) (n : ℕ) (ms words : List ℕ) where
       ap (λ m. interval_key_bytes flag_bytes (dealt_flag_key x b i r t w m) (flag_rows x i r t w m)) (sym (ap (λ v. v.0) e))
       ∙ (λ j. flag_gate_bytes x b i (f j) t (h j))
       ∙ (λ j. gate_key_bytes (dealt_gate x (e j).0 (is_one b) ms (front 8 words) (Flag a (e j).1 (e j).2 t)))
+      ∙ ap keyed (sym is)
+
+  pub product_is : (v : Width) (r s : ℕ) (w : List ℕ) (a d : ℕ) (body : GateBody) → body ≡ Product a d → v.bits ≡ n
+      → r ≡ get_or ms a 0 → s ≡ get_or ms d 0 → w ≡ front 4 words → parts_bytes (dealt_product b v r s w) ≡ keyed body
+  product_is v r s w a d body is e f k h =
+      (λ j. parts_bytes (dealt_product b v (f j) (k j) (h j)))
+      ∙ (λ j. gate_key_bytes (dealt_gate x (e j) (is_one b) ms (front 4 words) (Product a d)))
       ∙ ap keyed (sym is)
 
   shift_key_is : (v : range.Shift) (r : ℕ) (w : List ℕ) (a s : ℕ) → shift_view v ≡ (n, s) → r ≡ get_or ms a 0 → w ≡ front 10 words

@@ -9,12 +9,13 @@ ghost use Rattle.plan.specs.Plans.{words_of};
 ghost use Rattle.plan.specs.Questions.{fields_fit, interval_fits, shift_fits};
 ghost use Rattle.gatekeys.specs.Parameters.{interval_view, shift_view};
 ghost use Rattle.gates.specs.Interval.{key_of, rows_of};
+ghost use Rattle.gates.specs.Product.{dealt_product};
 ghost use Rattle.layout.specs.Bytes.{front};
 ghost use Rattle.layout.specs.Wires.{gate, wire_bytes, gate_key_bytes, mask_bytes};
 ghost use Rattle.buffers.specs.Forms.{Put, Room};
 ghost use Rattle.gatebytes.specs.Dealt.{dealt_gate};
 ghost use Rattle.gatebytes.specs.Heads.{head_bytes, places, parameters, before_key};
-ghost use Rattle.gatebytes.specs.Keyed.{shift_gate_bytes, HasRoom, IsPut};
+ghost use Rattle.gatebytes.specs.Keyed.{parts_bytes, shift_gate_bytes, HasRoom, IsPut};
 
 use buffers::Writer;
 use expander::Expander;
@@ -144,6 +145,15 @@ impl<'a, X: Expander> Dealer<'a, X> {
         put_interval(writer, key.parts(), rows.as_slice());
     }
 
+    fn put_product(&self, writer: &mut Writer, gate: &ProductGate)
+        requires { Room writer.old (parts_bytes (dealt_product self.now.number
+            gate.now.width gate.now.mask_a gate.now.mask_b gate.now.words)) }
+        ensures { Put writer.old (parts_bytes (dealt_product self.now.number
+            gate.now.width gate.now.mask_a gate.now.mask_b gate.now.words)) writer.new }
+    {
+        put_product(writer, deal_product(self.number, gate).parts());
+    }
+
     fn put_shift(&self, writer: &mut Writer, gate: &ShiftGate)
         requires { Room writer.old (shift_gate_bytes X.Expander.meaning self.now.number
             gate.now.shift gate.now.mask gate.now.words) }
@@ -184,7 +194,7 @@ impl<'a, X: Expander> Dealer<'a, X> {
                     mask_b: mask_in(self.masks, b as usize),
                     words: words_from(words),
                 };
-                put_product(writer, deal_product(self.number, &gate).parts());
+                self.put_product(writer, &gate);
             }
             GateBody::Piece { a, p, q, c } => {
                 let gate = PieceGate {
