@@ -5,6 +5,8 @@ use Rattle.refusal.specs.Questions.{answered, asked}
 use Rattle.refusal.proofs.Answered.{refused_alike, answered_alike}
 use Rattle.plan.specs.Plans.{Planned}
 use Rattle.plan.specs.Questions.{plan_asks}
+use Rattle.plan.proofs.Accepted.{accepted}
+use Rattle.dealer.specs.Lengths.{Allowed}
 
 -- whether all questions are answered yes, or the first no
 abbrev pub passed : List (Bool × Refusal) → Result (Unit {0}) Refusal
@@ -35,6 +37,11 @@ no_more (q ∷ qs) rs y e h = no q.0 q.1 (passed qs) (answered (qs ++ rs) y) e (
 pub asked_no : (b : Bool) (e r : Refusal) → Err r ≡ asked b e → (b ≡ false) × (r ≡ e)
 asked_no true e r h = absurd (let f : ◌≡◌ {A = ℕ} 0 1 = cc in omega arith)
 asked_no false e r h = (refl, cc)
+
+pub allowed : (p : Planned) (b w : ℕ) → passed (plan_asks p b w) ≡ Ok tt → Allowed p
+allowed p b w h =
+    let a = accepted p b w h in
+    record { least = a.some_bits; most = a.few_bits; inputs = a.few_inputs; gates = a.few_gates; fields = a.fields }
 
 -- what is answered is what was to be
 pub answer_is : {Y : Type 0} (qs : List (Bool × Refusal)) (y z : Y) → answered qs y ≡ Ok z → y ≡ z

@@ -9,9 +9,9 @@ use Rattle.plan.specs.declared.gates.Gate.TheVariants.{Sum, Scale, Product, Piec
 use Rattle.plan.specs.declared.PlanWire.TheVariants.{Input, Gate}
 use Rattle.plan.specs.Plans.{Planned, wires, is_input, row_at, wire_at, no_row}
 use Rattle.plan.specs.Questions.{fields_fit, all_fields_fit, shift_fits}
-use Rattle.plan.specs.Allowed.{Allowed}
+use Rattle.plan.specs.Allowed as passed
 use Rattle.dealer.specs.Book.{WireFits}
-use Rattle.dealer.specs.Lengths.{rest_length, body_length, lengths_below, place}
+use Rattle.dealer.specs.Lengths.{Allowed, rest_length, body_length, lengths_below, place}
 
 pub and_both : (a b : Bool) → (a && b) ≡ true → (a ≡ true) × (b ≡ true)
 and_both true b h = (refl, h)
@@ -23,8 +23,12 @@ fields_at n [] i h = refl
 fields_at n (r ∷ rs) zero h = (and_both _ _ h).0
 fields_at n (r ∷ rs) (suc i) h = fields_at n rs i (and_both _ _ h).1
 
+-- what the lengths rest on, of a plan that passed its questions
+pub of_passed : (p : Planned) → passed.Allowed p → Allowed p
+of_passed p a = record { least = a.least; most = a.most; inputs = a.inputs; gates = a.gates; fields = a.fields }
+
 -- the rows of an allowed plan fit
-pub wire_fits : (p : Planned) (k : ℕ) → Allowed p → WireFits p.width (wire_at p k)
+pub wire_fits : (p : Planned) (k : ℕ) → passed.Allowed p → WireFits p.width (wire_at p k)
 wire_fits p k a = pick (is_input p k)
   where
     pick : (i : Bool) → WireFits p.width (cond i (Input (get_or p.owners k 0)) (Gate (row_at p k)))

@@ -1,9 +1,18 @@
 -- How long the parts of a book are, known before it is written.
-use Rattle.std.specs.Prelude.{ℕ, zero, suc, ◌+◌, ◌*◌, cond, List, ◌++◌, ◌==◌, slice_index}
+use Rattle.std.specs.Prelude.{◌≡◌, ℕ, zero, suc, ◌+◌, ◌*◌, ◌≤◌, true, cond, List, ◌++◌, length, ◌==◌, slice_index}
 use Rattle.stored.specs.Forms.{four_bytes}
 use Rattle.plan.specs.Gates.{GateBody}
 use Rattle.plan.specs.declared.gates.Gate.TheVariants.{Sum, Scale, Product, Piece, Flag, Shift, SignedShift, Xor}
 use Rattle.plan.specs.Plans.{Planned, wires, is_input, row_at}
+use Rattle.plan.specs.Questions.{all_fields_fit}
+
+-- what of questions 1 to 5 the lengths rest on
+pub record Allowed (p : Planned) : Type 0 where
+  pub least : 1 ≤ p.width
+  pub most : p.width ≤ 32
+  pub inputs : length p.owners ≤ 16
+  pub gates : length p.rows ≤ 32
+  pub fields : all_fields_fit p.width p.rows ≡ true
 
 -- a gate's parameters and key at width n
 abbrev pub rest_length : ℕ → GateBody → ℕ

@@ -8,7 +8,7 @@ use Rattle.buffers.proofs.Puts.{then, put_as, put_long}
 use Rattle.dealer.specs.Book.{order, header_of, dealt}
 use Rattle.dealer.proofs.Accepted.{same_plan, plan_passed, plan_refused, asked_no}
 use Rattle.dealer.proofs.Longs.{bodies_long, contents_long}
-use Rattle.dealer.proofs.Shorts.{book_short}
+use Rattle.dealer.proofs.Shorts.{book_short, of_passed}
 use Rattle.dealer.proofs.Whole.{refused, too_short, made_book, left_as}
 use Rattle.dealer.proofs.deal.Goals as goal
 
@@ -37,7 +37,7 @@ returns-in_err-ask-clause-book g c =
 
 pub overflow_cast-long : goal.overflow_cast-long
 overflow_cast-long g c =
-    let s = book_short (stated c.in_ok-plan.plan.plan) c.args.number c.in_ok-plan.plan.allowed in
+    let s = book_short (stated c.in_ok-plan.plan.plan) c.args.number (of_passed (stated c.in_ok-plan.plan.plan) c.in_ok-plan.plan.allowed) in
     let few : c.long-long.result ≤ 54880 = omega (arith, c.long-long.ensures) in
     search rules
 
@@ -99,5 +99,5 @@ returns-clause-book g c =
 
 pub returns-clause-bound : goal.returns-clause-bound
 returns-clause-bound g c =
-    let s = book_short (stated c.in_ok-plan.plan.plan) c.args.number c.in_ok-plan.plan.allowed in
+    let s = book_short (stated c.in_ok-plan.plan.plan) c.args.number (of_passed (stated c.in_ok-plan.plan.plan) c.in_ok-plan.plan.allowed) in
     omega (arith, c.long-long.ensures)

@@ -4,7 +4,7 @@ use Rattle.plan.specs.Plans.{stated, wires}
 use Rattle.buffers.proofs.Puts.{put_as, room_as, put_none}
 use Rattle.dealer.specs.Lengths.{entry}
 use Rattle.dealer.proofs.Joined.{joined_step, joined_room}
-use Rattle.dealer.proofs.Shorts.{lengths_more, lengths_short}
+use Rattle.dealer.proofs.Shorts.{lengths_more, lengths_short, of_passed}
 use Rattle.dealer.proofs.Book.put_contents.Goals as goal
 
 pub loop-k-init : goal.loop-k-init
@@ -36,7 +36,7 @@ loop-k-preserved c =
 pub overflow_cast-place : goal.overflow_cast-place
 overflow_cast-place c =
     let a = c.args.self in
-    let s = lengths_short (stated a.plan.plan) a.number c.loop-k.k a.plan.allowed in
+    let s = lengths_short (stated a.plan.plan) a.number c.loop-k.k (of_passed (stated a.plan.plan) a.plan.allowed) in
     let i = a.plan.allowed.inputs in
     let g = a.plan.allowed.gates in
     let few : c.loop-k.place ≤ 1000000 = omega arith in
@@ -47,7 +47,7 @@ overflow_cast-long c =
     let a = c.args.self in
     let p = stated a.plan.plan in
     let m = lengths_more p a.number c.loop-k.k in
-    let s = lengths_short p a.number (c.loop-k.k + 1) a.plan.allowed in
+    let s = lengths_short p a.number (c.loop-k.k + 1) (of_passed p a.plan.allowed) in
     let i = a.plan.allowed.inputs in
     let g = a.plan.allowed.gates in
     let few : c.body_len-long.result ≤ 1000000 = omega arith in
@@ -58,7 +58,7 @@ overflow_add-place-in-loop-k c =
     let a = c.args.self in
     let p = stated a.plan.plan in
     let m = lengths_more p a.number c.loop-k.k in
-    let s = lengths_short p a.number (c.loop-k.k + 1) a.plan.allowed in
+    let s = lengths_short p a.number (c.loop-k.k + 1) (of_passed p a.plan.allowed) in
     let i = a.plan.allowed.inputs in
     let g = a.plan.allowed.gates in
     let few : c.loop-k.place + c.body_len-long.result ≤ 1000000 = omega arith in
