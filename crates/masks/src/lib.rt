@@ -73,7 +73,8 @@ pub fn masks_of(width: Width, plan: Plan, words: &[u64]) -> [u32; 48]
     // Stays: each mask is made from those below it in the same table, which no iterator can hold meanwhile.
     for k in 0..plan.wires() {
         let wire = plan.wire(k);
-        masks[k] = wire_mask(width, &masks, word_in(left, 0), wire);
+        let mask = wire_mask(width, &masks, word_in(left, 0), wire);
+        masks[k] = mask;
         left = after(left, wire.words());
     }
     masks

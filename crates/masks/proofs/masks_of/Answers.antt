@@ -17,9 +17,9 @@ loop-k-preserved c =
     let z : u + 0 ≡ u = omega arith in
     let w : word ≡ get_or words u 0 =
     c.word_in.ensures ∙ ap (λ xs. get_or xs 0 0) i.1 ∙ get_or-drop u words 0 0 ∙ ap (λ j. get_or words j 0) z in
-    let m : c.wire_mask.result ≡ mask_at p masks word k =
-    c.wire_mask.ensures ∙ (λ j. wire_mask (sym c.requires.1 j) masks word (c.wire-wire.ensures j)) ∙ mask_of_wire p masks word k in
+    let m : c.wire_mask-mask.result ≡ mask_at p masks word k =
+    c.wire_mask-mask.ensures ∙ (λ j. wire_mask (sym c.requires.1 j) masks word (c.wire-wire.ensures j)) ∙ mask_of_wire p masks word k in
     let n : c.words.result ≡ words_at p k = c.words.ensures.count ∙ ap wire_words c.wire-wire.ensures ∙ words_of_wire p k in (
-      masks_turn p words k masks u word c.wire_mask.result i.0 refl w m,
+      masks_turn p words k masks u word c.wire_mask-mask.result i.0 refl w m,
       c.after-left.ensures ∙ (λ j. drop (n j) (i.1 j)) ∙ drop-drop (words_at p k) u words ∙ ap (λ j. drop j words) (sym (words_more p k)),
     )
