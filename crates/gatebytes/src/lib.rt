@@ -4,7 +4,7 @@
 ghost use Rattle.std.specs.Prelude.{◌≡◌, ◌≤◌, true, ◌++◌, length};
 ghost use Rattle.stored.specs.Forms.{four_bytes};
 ghost use Rattle.key.specs.Rows.{is_one};
-ghost use Rattle.plan.specs.Gates.{number_of};
+ghost use Rattle.plan.specs.Gates.{number_of, kind_of};
 ghost use Rattle.plan.specs.Plans.{words_of};
 ghost use Rattle.plan.specs.Questions.{fields_fit, interval_fits, shift_fits};
 ghost use Rattle.gatekeys.specs.Parameters.{interval_view, shift_view};
@@ -85,13 +85,20 @@ fn put_parameters(writer: &mut Writer, body: GateBody)
     }
 }
 
+// The kind that a body is written with.
+fn written_kind(body: GateBody) -> GateKind
+    ensures { result ≡ kind_of body }
+{
+    body.kind()
+}
+
 // The head and the parameters.
 fn put_before_key(writer: &mut Writer, shown: Option<u32>, body: GateBody)
     requires { Room writer.old (before_key shown body) }
     ensures { Put writer.old (before_key shown body) writer.new }
 {
     let (a, b) = places(body);
-    put_head(writer, body.kind(), a, b, shown);
+    put_head(writer, written_kind(body), a, b, shown);
     put_parameters(writer, body);
 }
 

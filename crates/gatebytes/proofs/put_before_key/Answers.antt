@@ -9,7 +9,7 @@ use Rattle.gatebytes.proofs.put_before_key.Goals.{After-put_head}
 head : (c : After-put_head) → Put c.args.writer.now
     (head_bytes (number_of (kind_of c.args.body)) (places c.args.body).0 (places c.args.body).1 c.args.shown) c.put_head.new.writer
 head c =
-    let k = ap number_of c.kind.ensures in
+    let k = ap number_of c.written_kind.ensures in
     let p = c.places-a.ensures in
     put_as (λ i. head_bytes (k i) (p i).0 (p i).1 c.args.shown) c.put_head.ensures
 
