@@ -124,28 +124,23 @@ pub fn deal_shift<X: Expander>(
 
 impl ShiftKey<Word> {
     // A box's share at the held value m.
-    fn share_at<X: Expander>(&self, expander: &X, sign: Sign, rows: &ShiftRows, m: u32) -> u32
+    fn share_at<X: Expander>(
+        &self,
+        expander: &X,
+        sign: Sign,
+        low: &Rows<Word>,
+        high: &Rows<Word>,
+        m: u32,
+    ) -> u32
         ensures { let N = size self.now.shift.width in let S = step_of self.now.shift in let h = asked_at sign N m in
             result ≡ share_by sign (is_one self.now.number) N S m
-            (low_at X.Expander.meaning word_mean self.now rows.now.low.rows.now (low_point S h)).0
-            (high_at X.Expander.meaning word_mean self.now rows.now.high.rows.now h).0 self.now.parts.rest }
+            (low_at X.Expander.meaning word_mean self.now low.now.rows.now (low_point S h)).0
+            (high_at X.Expander.meaning word_mean self.now high.now.rows.now h).0 self.now.parts.rest }
     {
         let at = point_at(sign, self.shift.width(), m);
         let below = low_bits(self.shift, at);
-        let low = answer(
-            expander,
-            self.number,
-            self.parts.low,
-            rows.low.as_slice(),
-            below,
-        );
-        let high = answer(
-            expander,
-            self.number,
-            self.parts.high,
-            rows.high.as_slice(),
-            at,
-        );
+        let low = answer(expander, self.number, self.parts.low, low.as_slice(), below);
+        let high = answer(expander, self.number, self.parts.high, high.as_slice(), at);
         shift_share(sign, self.number, self.shift, m, low, high, self.parts.rest)
     }
 }
@@ -156,15 +151,16 @@ impl Fresh<ShiftKey<Word>> {
         self,
         expander: &X,
         sign: Sign,
-        rows: &ShiftRows,
+        low: &Rows<Word>,
+        high: &Rows<Word>,
         m: Masked,
     ) -> Half<Word>
         ensures share { result.own.0
-            ≡ share_at_by X.Expander.meaning sign word_mean self.key rows.now.low.rows.now rows.now.high.rows.now m.0 }
+            ≡ share_at_by X.Expander.meaning sign word_mean self.key low.now.rows.now high.now.rows.now m.0 }
         ensures width { result.width ≡ self.key.shift.width }
     {
         let width = self.key.shift.width();
-        let own = self.key.share_at(expander, sign, rows, m.0);
+        let own = self.key.share_at(expander, sign, low, high, m.0);
         Half::new(width, Share(own))
     }
 }
@@ -202,8 +198,8 @@ pub fn shift_gate<D: Expander, X: Expander, Y: Expander>(
     ask_shift(gate, m, rows0, rows1)?;
     let key0 = shift_key(dealer, BoxNumber::Zero, gate, rows0);
     let key1 = shift_key(dealer, BoxNumber::One, gate, rows1);
-    let half0 = key0.answer_shift(box0, gate.sign, rows0, m);
-    let half1 = key1.answer_shift(box1, gate.sign, rows1, m);
+    let half0 = key0.answer_shift(box0, gate.sign, &rows0.low, &rows0.high, m);
+    let half1 = key1.answer_shift(box1, gate.sign, &rows1.low, &rows1.high, m);
     Ok(exchange(half0, half1))
 }
 
