@@ -1,5 +1,5 @@
 // Orders about gates: dealing one, and holding values at it.
-ghost use Rattle.std.specs.Prelude.{◌≡◌, min, length};
+ghost use Rattle.std.specs.Prelude.{◌≡◌};
 ghost use Rattle.console.specs.Local.{local_mask};
 
 use crate::kinds::{Task, with_expander};
@@ -68,21 +68,6 @@ fn print_shift_parts(rt: &HostRuntime, number: u8, parts: &ShiftParts<Word>) -> 
     println!(rt; "box {number} low {low} high {high} rest {rest}")
 }
 
-// The tables of one box's key of a shift.
-fn shift_tables<'a>(
-    gate: &ShiftGate,
-    low: &'a mut [Row<Word>],
-    high: &'a mut [Row<Word>],
-) -> ShiftRows<'a>
-    ensures low { length result.low.rows.now ≡ min gate.now.shift.by (length low.old) }
-    ensures high { length result.high.rows.now ≡ min gate.now.shift.width.bits (length high.old) }
-{
-    ShiftRows {
-        low: table(low, gate.shift.by()),
-        high: table(high, gate.shift.width().bits()),
-    }
-}
-
 fn deal_shift_gate<X: Expander>(
     rt: &HostRuntime,
     expander: &X,
@@ -90,11 +75,20 @@ fn deal_shift_gate<X: Expander>(
 ) -> Result<(), Stop> {
     let mut low_memory = [blank(); 32];
     let mut high_memory = [blank(); 32];
-    let mut rows = shift_tables(gate, &mut low_memory, &mut high_memory);
-    let zero = deal_shift(expander, BoxNumber::Zero, gate, &mut rows)?.parts();
-    let one = deal_shift(expander, BoxNumber::One, gate, &mut rows)?.parts();
-    print_common(rt, rows.low.as_slice(), &zero.low.last)?;
-    print_common(rt, rows.high.as_slice(), &zero.high.last)?;
+    let mut low = table(&mut low_memory, gate.shift.by());
+    let mut high = table(&mut high_memory, gate.shift.width().bits());
+    let rows0 = ShiftRows {
+        low: &mut low,
+        high: &mut high,
+    };
+    let zero = deal_shift(expander, BoxNumber::Zero, gate, rows0)?.parts();
+    let rows1 = ShiftRows {
+        low: &mut low,
+        high: &mut high,
+    };
+    let one = deal_shift(expander, BoxNumber::One, gate, rows1)?.parts();
+    print_common(rt, low.as_slice(), &zero.low.last)?;
+    print_common(rt, high.as_slice(), &zero.high.last)?;
     print_shift_parts(rt, 0, &zero)?;
     print_shift_parts(rt, 1, &one)?;
     Ok(())
@@ -235,11 +229,17 @@ impl Holding<'_> {
         let mut high0 = [blank(); 32];
         let mut low1 = [blank(); 32];
         let mut high1 = [blank(); 32];
-        let mut rows0 = shift_tables(gate, &mut low0, &mut high0);
-        let mut rows1 = shift_tables(gate, &mut low1, &mut high1);
-        let answers = shift_gate(
-            expander, expander, expander, gate, &mut rows0, &mut rows1, m,
-        )?;
+        let by = gate.shift.by();
+        let bits = gate.shift.width().bits();
+        let rows0 = ShiftRows {
+            low: &mut table(&mut low0, by),
+            high: &mut table(&mut high0, bits),
+        };
+        let rows1 = ShiftRows {
+            low: &mut table(&mut low1, by),
+            high: &mut table(&mut high1, bits),
+        };
+        let answers = shift_gate(expander, expander, expander, gate, rows0, rows1, m)?;
         let v = m.unmask(gate.shift.width(), gate.mask);
         let plain = match gate.sign {
             Sign::Unsigned => plain_shift(gate.shift, v),

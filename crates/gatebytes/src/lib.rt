@@ -169,17 +169,14 @@ impl<'a, X: Expander> Dealer<'a, X> {
     {
         let mut low = [blank::<Word>(); 32];
         let mut high = [blank::<Word>(); 32];
-        let mut rows = ShiftRows {
-            low: Rows::over(&mut low[0..gate.shift.by() as usize]),
-            high: Rows::over(&mut high[0..gate.shift.width().bits() as usize]),
+        let mut low = Rows::over(&mut low[0..gate.shift.by() as usize]);
+        let mut high = Rows::over(&mut high[0..gate.shift.width().bits() as usize]);
+        let rows = ShiftRows {
+            low: &mut low,
+            high: &mut high,
         };
-        let key = deal_shift(self.expander, self.number, gate, &mut rows).unwrap();
-        put_shift(
-            writer,
-            key.parts(),
-            rows.low.as_slice(),
-            rows.high.as_slice(),
-        );
+        let key = deal_shift(self.expander, self.number, gate, rows).unwrap();
+        put_shift(writer, key.parts(), low.as_slice(), high.as_slice());
     }
 
     // The key of a gate, for the masks of the wires that it reads, and from its own random words on; a local gate has none.

@@ -1,10 +1,10 @@
 -- The questions as the code asks them.
-use Rattle.std.proofs.Common.{◌≡◌, ℕ, ◌^◌, ◌<◌, eqb, ltb, List, [], ◌∷◌, Bool, Ok}
+use Rattle.std.proofs.Common.{◌≡◌, ℕ, ◌^◌, ◌<◌, eqb, ltb, List, [], ◌∷◌, Bool, Ok, Err, sym}
 use Rattle.std.proofs.lemmas.Bool.{eqb-true, ltb-true}
 use Rattle.refusal.specs.declared.Refusal.{Refusal}
 use Rattle.refusal.specs.declared.Refusal.TheVariants.{PlanFields, KeyRange, KeyRows}
 use Rattle.refusal.specs.Questions.{answered}
-use Rattle.refusal.proofs.Answered.{first_yes, rest_yes}
+use Rattle.refusal.proofs.Answered.{refused_alike, answered_alike, first_yes, rest_yes}
 use Rattle.gatekeys.specs.declared.ranges.Shift.{Shift}
 use Rattle.gates.specs.Questions.{gate_asks, product_asks}
 use Rattle.gates.specs.ShiftQuestions.{shift_row_asks, shift_asks}
@@ -30,6 +30,15 @@ gate_allowed n r m k j u h =
       rows0 = eqb-true k n (first_yes (eqb k n) KeyRows q3 (tt {0}) u h2);
       rows1 = eqb-true j n (first_yes (eqb j n) KeyRows [] (tt {0}) u h3);
     }
+
+-- the questions of a product
+pub product_refused : {Y : Type 0} (n r s m k : ℕ) (e : Refusal) (y : Y) → Err e ≡ answered (product_asks n r s m k) (tt {0})
+    → answered (product_asks n r s m k) y ≡ Err e
+product_refused n r s m k e y h = refused_alike (product_asks n r s m k) (tt {0}) y e (sym h)
+
+pub product_accepted : {Y : Type 0} (n r s m k : ℕ) (u : Unit {0}) (y : Y) → Ok u ≡ answered (product_asks n r s m k) (tt {0})
+    → answered (product_asks n r s m k) y ≡ Ok y
+product_accepted n r s m k u y h = answered_alike (product_asks n r s m k) (tt {0}) u y (sym h)
 
 -- both masks of a product
 pub product_allowed : (n r s m k : ℕ) (u : Unit {0}) → answered (product_asks n r s m k) (tt {0}) ≡ Ok u → (r < 2 ^ n) × (s < 2 ^ n)

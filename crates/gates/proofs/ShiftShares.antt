@@ -21,7 +21,7 @@ use Rattle.gates.specs.declared.shift.ShiftKey.{ShiftKey}
 use Rattle.gatemath.specs.Elements.{step_of, word_mean}
 use Rattle.gatemath.specs.Signs.{asked_at, share_by}
 use Rattle.gates.specs.Shift.{shift_key_mean, low_root0, low_root1, high_root0, high_root1, low_rows_of, high_rows_of, dealt_shift_key}
-use Rattle.gates.specs.Shift.{low_at, high_at, share_at_by, numbers_by, held_by}
+use Rattle.gates.specs.Shift.{low_at, high_at, shift_share_at, signed_share_at, share_at_by, numbers_by, signed_shift_held, held_by}
 use Rattle.gates.specs.Shift.{low_key_dealt, high_key_dealt, shift_share_dealt, signed_share_dealt}
 use Rattle.gates.proofs.Meeting.{dealt_keys_join}
 
@@ -88,6 +88,12 @@ module _ (d : Expansion) (s : Shift) (r : ℕ) (ws : List ℕ) where
       share_is Unsigned e = e ∙ from_dealt x b share_at k low high hk hl hh
       share_is Signed e = e ∙ from_dealt x b signed_at k low high hk hl hh
 
+      pub shift_share_is : t ≡ shift_share_at x word_mean k low high m → t ≡ shift_share_dealt d x (is_one b) s r ws m
+      shift_share_is = share_is Unsigned
+
+      pub signed_share_is : t ≡ signed_share_at x word_mean k low high m → t ≡ signed_share_dealt d x (is_one b) s r ws m
+      signed_share_is = share_is Signed
+
     module _ (x y : Expansion) where
       pub numbers_are : (sign : Sign) → (let t : ℕ × ℕ × ℕ =
           (dealt_by sign x false, dealt_by sign y true, sum_of N (dealt_by sign x false) (dealt_by sign y true)) in t)
@@ -111,3 +117,6 @@ module _ (d : Expansion) (s : Shift) (r : ℕ) (ws : List ℕ) where
         shifts_join Signed =
             signed_shift_is_plain s.width.bits s.by m r (get_or ws 0 0 % N) (get_or ws 9 0) s.fits s.width.most hm hr
             (low_key_dealt d x false s r ws) (low_key_dealt d y true s r ws) (high_key_dealt d x false s r ws) (high_key_dealt d y true s r ws) keys_join
+
+        pub signed_shifts_join : sum_of N (signed_share_dealt d x false s r ws m) (signed_share_dealt d y true s r ws m) ≡ signed_shift_held s r ws m
+        signed_shifts_join = shifts_join Signed

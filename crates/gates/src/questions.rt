@@ -53,7 +53,7 @@ pub(crate) fn ask_product(gate: &ProductGate, m: Masked, k: Masked) -> Result<()
 
 // As many rows in the low table as the shift, and in the high one as the width?
 pub(crate) fn ask_shift_rows(shift: Shift, rows: &ShiftRows) -> Result<(), Refusal>
-    ensures { result ≡ answered (shift_row_asks shift (length rows.now.low.rows.now) (length rows.now.high.rows.now)) tt }
+    ensures { result ≡ answered (shift_row_asks shift (length rows.now.low.now.rows.now) (length rows.now.high.now.rows.now)) tt }
 {
     Refusal::ask(
         rows.low.count() == usize::from(shift.by()),
@@ -70,8 +70,8 @@ pub(crate) fn ask_shift(
     rows1: &ShiftRows,
 ) -> Result<(), Refusal>
     ensures { result ≡ answered (shift_asks gate.now.shift gate.now.mask m.0
-        (length rows0.now.low.rows.now) (length rows0.now.high.rows.now)
-        (length rows1.now.low.rows.now) (length rows1.now.high.rows.now)) tt }
+        (length rows0.now.low.now.rows.now) (length rows0.now.high.now.rows.now)
+        (length rows1.now.low.now.rows.now) (length rows1.now.high.now.rows.now)) tt }
 {
     ask_numbers(gate.shift.width(), gate.mask, m)?;
     ask_shift_rows(gate.shift, rows0)?;

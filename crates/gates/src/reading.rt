@@ -45,15 +45,16 @@ pub fn read_shift_key(
     number: BoxNumber,
     shift: Shift,
     bytes: &[u8],
-    rows: &mut ShiftRows,
+    rows: ShiftRows,
 ) -> Result<Fresh<ShiftKey<Word>>, Refusal>
-    ensures key { ShiftKeyRead word_form number shift bytes.now rows.old.low.rows.now rows.old.high.rows.now
-        rows.new.low.rows.now rows.new.high.rows.now result }
-    ensures same_low { rows.new.low.rows.ghost_name ≡ rows.old.low.rows.ghost_name }
-    ensures same_high { rows.new.high.rows.ghost_name ≡ rows.old.high.rows.ghost_name }
+    ensures key { ShiftKeyRead word_form number shift bytes.now rows.entry.low.now.rows.now rows.entry.high.now.rows.now
+        rows.exit.0.now.rows.now rows.exit.1.0.now.rows.now result }
+    ensures same_low { rows.exit.0.now.rows.ghost_name ≡ rows.entry.low.now.rows.ghost_name }
+    ensures same_high { rows.exit.1.0.now.rows.ghost_name ≡ rows.entry.high.now.rows.ghost_name }
 {
-    ask_shift_rows(shift, rows)?;
-    let parts = read_shift(bytes, &mut rows.low, &mut rows.high).ok_or(Refusal::BookBodies)?;
+    ask_shift_rows(shift, &rows)?;
+    let ShiftRows { low, high } = rows;
+    let parts = read_shift(bytes, low, high).ok_or(Refusal::BookBodies)?;
     Ok(Fresh::new(ShiftKey {
         number,
         shift,

@@ -36,11 +36,12 @@ pub struct ShiftKey<G> {
     pub(crate) parts: ShiftParts<G>,
 }
 
-// The tables of a shift's two comparison keys, the low one and the high one.
+// The tables of a shift's two comparison keys, the low one and the high one, as their holder lends them. In a clause
+// `rows.exit.0` is the low table at the return, and `rows.exit.1.0` the high one.
 #[derive(Drop)]
-pub struct ShiftRows<'a> {
-    pub low: Rows<'a, Word>,
-    pub high: Rows<'a, Word>,
+pub struct ShiftRows<'a, 'b, 'c> {
+    pub low: &'a mut Rows<'b, Word>,
+    pub high: &'a mut Rows<'c, Word>,
 }
 
 // A box's part of the rest: word 0 is the output mask, and word 9 box 1's part.
@@ -59,17 +60,18 @@ fn shift_key<X: Expander>(
     expander: &X,
     number: BoxNumber,
     gate: &ShiftGate,
-    rows: &mut ShiftRows,
+    low: &mut Rows<Word>,
+    high: &mut Rows<Word>,
 ) -> Fresh<ShiftKey<Word>>
     ensures key { fresh_shift_mean word_mean result
         ≡ dealt_shift_key X.Expander.meaning number gate.now.shift gate.now.mask gate.now.words
-        (length rows.old.low.rows.now) (length rows.old.high.rows.now) }
-    ensures low { map (row_mean word_mean) rows.new.low.rows.now
-        ≡ low_rows_of X.Expander.meaning gate.now.shift gate.now.mask gate.now.words (length rows.old.low.rows.now) }
-    ensures high { map (row_mean word_mean) rows.new.high.rows.now
-        ≡ high_rows_of X.Expander.meaning gate.now.shift gate.now.mask gate.now.words (length rows.old.high.rows.now) }
-    ensures same_low { rows.new.low.rows.ghost_name ≡ rows.old.low.rows.ghost_name }
-    ensures same_high { rows.new.high.rows.ghost_name ≡ rows.old.high.rows.ghost_name }
+        (length low.old.rows.now) (length high.old.rows.now) }
+    ensures low { map (row_mean word_mean) low.new.rows.now
+        ≡ low_rows_of X.Expander.meaning gate.now.shift gate.now.mask gate.now.words (length low.old.rows.now) }
+    ensures high { map (row_mean word_mean) high.new.rows.now
+        ≡ high_rows_of X.Expander.meaning gate.now.shift gate.now.mask gate.now.words (length high.old.rows.now) }
+    ensures same_low { low.new.rows.ghost_name ≡ low.old.rows.ghost_name }
+    ensures same_high { high.new.rows.ghost_name ≡ high.old.rows.ghost_name }
 {
     let shift = gate.shift;
     let below = low_bits(shift, gate.mask);
@@ -84,7 +86,7 @@ fn shift_key<X: Expander>(
                 below,
                 low_key_payload(),
                 roots_at(&gate.words, 1),
-                &mut rows.low,
+                low,
             ),
             high: deal_ends(
                 expander,
@@ -92,7 +94,7 @@ fn shift_key<X: Expander>(
                 gate.mask,
                 steps,
                 roots_at(&gate.words, 5),
-                &mut rows.high,
+                high,
             ),
             rest: rest_part(number, gate),
         },
@@ -105,47 +107,43 @@ pub fn deal_shift<X: Expander>(
     expander: &X,
     number: BoxNumber,
     gate: &ShiftGate,
-    rows: &mut ShiftRows,
+    rows: ShiftRows,
 ) -> Result<Fresh<ShiftKey<Word>>, Refusal>
     ensures key { answer_mean (fresh_shift_mean word_mean) result
-        ≡ answered (shift_row_asks gate.now.shift (length rows.old.low.rows.now) (length rows.old.high.rows.now))
+        ≡ answered (shift_row_asks gate.now.shift (length rows.entry.low.now.rows.now) (length rows.entry.high.now.rows.now))
         (dealt_shift_key X.Expander.meaning number gate.now.shift gate.now.mask gate.now.words
         gate.now.shift.by gate.now.shift.width.bits) }
-    ensures low { RowsAfter word_mean result rows.old.low.rows.now rows.new.low.rows.now
+    ensures low { RowsAfter word_mean result rows.entry.low.now.rows.now rows.exit.0.now.rows.now
         (low_rows_of X.Expander.meaning gate.now.shift gate.now.mask gate.now.words gate.now.shift.by) }
-    ensures high { RowsAfter word_mean result rows.old.high.rows.now rows.new.high.rows.now
+    ensures high { RowsAfter word_mean result rows.entry.high.now.rows.now rows.exit.1.0.now.rows.now
         (high_rows_of X.Expander.meaning gate.now.shift gate.now.mask gate.now.words gate.now.shift.width.bits) }
-    ensures same_low { rows.new.low.rows.ghost_name ≡ rows.old.low.rows.ghost_name }
-    ensures same_high { rows.new.high.rows.ghost_name ≡ rows.old.high.rows.ghost_name }
+    ensures same_low { rows.exit.0.now.rows.ghost_name ≡ rows.entry.low.now.rows.ghost_name }
+    ensures same_high { rows.exit.1.0.now.rows.ghost_name ≡ rows.entry.high.now.rows.ghost_name }
 {
-    ask_shift_rows(gate.shift, rows)?;
-    Ok(shift_key(expander, number, gate, rows))
+    ask_shift_rows(gate.shift, &rows)?;
+    let ShiftRows { low, high } = rows;
+    Ok(shift_key(expander, number, gate, low, high))
 }
 
 impl ShiftKey<Word> {
     // A box's share at the held value m.
-    fn share_at<X: Expander>(&self, expander: &X, sign: Sign, rows: &ShiftRows, m: u32) -> u32
+    fn share_at<X: Expander>(
+        &self,
+        expander: &X,
+        sign: Sign,
+        low: &Rows<Word>,
+        high: &Rows<Word>,
+        m: u32,
+    ) -> u32
         ensures { let N = size self.now.shift.width in let S = step_of self.now.shift in let h = asked_at sign N m in
             result ≡ share_by sign (is_one self.now.number) N S m
-            (low_at X.Expander.meaning word_mean self.now rows.now.low.rows.now (low_point S h)).0
-            (high_at X.Expander.meaning word_mean self.now rows.now.high.rows.now h).0 self.now.parts.rest }
+            (low_at X.Expander.meaning word_mean self.now low.now.rows.now (low_point S h)).0
+            (high_at X.Expander.meaning word_mean self.now high.now.rows.now h).0 self.now.parts.rest }
     {
         let at = point_at(sign, self.shift.width(), m);
         let below = low_bits(self.shift, at);
-        let low = answer(
-            expander,
-            self.number,
-            self.parts.low,
-            rows.low.as_slice(),
-            below,
-        );
-        let high = answer(
-            expander,
-            self.number,
-            self.parts.high,
-            rows.high.as_slice(),
-            at,
-        );
+        let low = answer(expander, self.number, self.parts.low, low.as_slice(), below);
+        let high = answer(expander, self.number, self.parts.high, high.as_slice(), at);
         shift_share(sign, self.number, self.shift, m, low, high, self.parts.rest)
     }
 }
@@ -156,15 +154,16 @@ impl Fresh<ShiftKey<Word>> {
         self,
         expander: &X,
         sign: Sign,
-        rows: &ShiftRows,
+        low: &Rows<Word>,
+        high: &Rows<Word>,
         m: Masked,
     ) -> Half<Word>
         ensures share { result.own.0
-            ≡ share_at_by X.Expander.meaning sign word_mean self.key rows.now.low.rows.now rows.now.high.rows.now m.0 }
+            ≡ share_at_by X.Expander.meaning sign word_mean self.key low.now.rows.now high.now.rows.now m.0 }
         ensures width { result.width ≡ self.key.shift.width }
     {
         let width = self.key.shift.width();
-        let own = self.key.share_at(expander, sign, rows, m.0);
+        let own = self.key.share_at(expander, sign, low, high, m.0);
         Half::new(width, Share(own))
     }
 }
@@ -176,34 +175,42 @@ pub fn shift_gate<D: Expander, X: Expander, Y: Expander>(
     box0: &X,
     box1: &Y,
     gate: &ShiftGate,
-    rows0: &mut ShiftRows,
-    rows1: &mut ShiftRows,
+    rows0: ShiftRows,
+    rows1: ShiftRows,
     m: Masked,
 ) -> Result<GateAnswers, Refusal>
     ensures numbers { answer_mean numbers_of result
-        ≡ answered (shift_asks gate.now.shift gate.now.mask m.0 (length rows0.old.low.rows.now)
-        (length rows0.old.high.rows.now) (length rows1.old.low.rows.now) (length rows1.old.high.rows.now))
+        ≡ answered (shift_asks gate.now.shift gate.now.mask m.0 (length rows0.entry.low.now.rows.now)
+        (length rows0.entry.high.now.rows.now) (length rows1.entry.low.now.rows.now) (length rows1.entry.high.now.rows.now))
         (numbers_by D.Expander.meaning X.Expander.meaning Y.Expander.meaning gate.now.shift gate.now.mask gate.now.words m.0
         gate.now.sign) }
     ensures joins { D.Expander.meaning ≡ X.Expander.meaning → D.Expander.meaning ≡ Y.Expander.meaning
         → answer_mean held_of result
-        ≡ answered (shift_asks gate.now.shift gate.now.mask m.0 (length rows0.old.low.rows.now)
-        (length rows0.old.high.rows.now) (length rows1.old.low.rows.now) (length rows1.old.high.rows.now))
+        ≡ answered (shift_asks gate.now.shift gate.now.mask m.0 (length rows0.entry.low.now.rows.now)
+        (length rows0.entry.high.now.rows.now) (length rows1.entry.low.now.rows.now) (length rows1.entry.high.now.rows.now))
         (held_by gate.now.sign gate.now.shift gate.now.mask gate.now.words m.0) }
-    ensures low0 { RowsAfter word_mean result rows0.old.low.rows.now rows0.new.low.rows.now
+    ensures low0 { RowsAfter word_mean result rows0.entry.low.now.rows.now rows0.exit.0.now.rows.now
         (low_rows_of D.Expander.meaning gate.now.shift gate.now.mask gate.now.words gate.now.shift.by) }
-    ensures high0 { RowsAfter word_mean result rows0.old.high.rows.now rows0.new.high.rows.now
+    ensures high0 { RowsAfter word_mean result rows0.entry.high.now.rows.now rows0.exit.1.0.now.rows.now
         (high_rows_of D.Expander.meaning gate.now.shift gate.now.mask gate.now.words gate.now.shift.width.bits) }
-    ensures low1 { RowsAfter word_mean result rows1.old.low.rows.now rows1.new.low.rows.now
+    ensures low1 { RowsAfter word_mean result rows1.entry.low.now.rows.now rows1.exit.0.now.rows.now
         (low_rows_of D.Expander.meaning gate.now.shift gate.now.mask gate.now.words gate.now.shift.by) }
-    ensures high1 { RowsAfter word_mean result rows1.old.high.rows.now rows1.new.high.rows.now
+    ensures high1 { RowsAfter word_mean result rows1.entry.high.now.rows.now rows1.exit.1.0.now.rows.now
         (high_rows_of D.Expander.meaning gate.now.shift gate.now.mask gate.now.words gate.now.shift.width.bits) }
 {
-    ask_shift(gate, m, rows0, rows1)?;
-    let key0 = shift_key(dealer, BoxNumber::Zero, gate, rows0);
-    let key1 = shift_key(dealer, BoxNumber::One, gate, rows1);
-    let half0 = key0.answer_shift(box0, gate.sign, rows0, m);
-    let half1 = key1.answer_shift(box1, gate.sign, rows1, m);
+    ask_shift(gate, m, &rows0, &rows1)?;
+    let ShiftRows {
+        low: low0,
+        high: high0,
+    } = rows0;
+    let ShiftRows {
+        low: low1,
+        high: high1,
+    } = rows1;
+    let key0 = shift_key(dealer, BoxNumber::Zero, gate, low0, high0);
+    let key1 = shift_key(dealer, BoxNumber::One, gate, low1, high1);
+    let half0 = key0.answer_shift(box0, gate.sign, low0, high0, m);
+    let half1 = key1.answer_shift(box1, gate.sign, low1, high1, m);
     Ok(exchange(half0, half1))
 }
 

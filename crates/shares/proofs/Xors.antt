@@ -3,10 +3,14 @@ use Rattle.std.proofs.Common.{◌%◌, ◌^◌, [], ◌∷◌, ap, ◌∙◌, ar
 use lib.Bits.{bit_xor, xor_zero_l, xor_assoc, xor_comm, xor_self}
 use Rattle.group.specs.Groups.{GroupLaws}
 use Rattle.algebra.proofs.Linear.{var, plus, minus, linear}
-use Rattle.shares.specs.Laws.{XorIsPlain, FlagJoins}
+use Rattle.shares.specs.Laws.{FlagsSplit, XorIsPlain, FlagJoins}
 
 xor_laws : GroupLaws 0 bit_xor (λ x. x)
 xor_laws = record { neutral = xor_zero_l; assoc = xor_assoc; comm = xor_comm; cancel = xor_self }
+
+pub flags_split : FlagsSplit
+flags_split all random =
+    linear xor_laws (all ∷ (random % 2 ^ 32) ∷ []) (plus (plus (var 0) (minus (var 1))) (var 1)) (var 0) (omega arith)
 
 pub xor_is_plain : XorIsPlain
 xor_is_plain m k r s =

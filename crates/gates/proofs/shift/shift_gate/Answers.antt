@@ -24,10 +24,10 @@ returns g c =
     let ws = c.args.gate.now.words in
     let u = c.in_ok-ask_shift.field-0 in
     let asked = sym c.in_ok-ask_shift.ensures in
-    let l0 : ℕ = length c.args.rows0.now.low.rows.now in
-    let h0 : ℕ = length c.args.rows0.now.high.rows.now in
-    let l1 : ℕ = length c.args.rows1.now.low.rows.now in
-    let h1 : ℕ = length c.args.rows1.now.high.rows.now in
+    let l0 : ℕ = length c.args.rows0.low.now.rows.now in
+    let h0 : ℕ = length c.args.rows0.high.now.rows.now in
+    let l1 : ℕ = length c.args.rows1.low.now.rows.now in
+    let h1 : ℕ = length c.args.rows1.high.now.rows.now in
     let fine = shift_allowed s r m l0 h0 l1 h1 u asked in
     let key0 = c.shift_key-key0 in
     let key1 = c.shift_key-key1 in
@@ -39,9 +39,9 @@ returns g c =
     let high1 = key1.ensures.high ∙ ap (high_rows_of d s r ws) fine.high1 in
     let k0 = key0.ensures.key ∙ ap (λ t. dealt_shift_key d Zero s r ws t h0) fine.low0 ∙ ap (dealt_shift_key d Zero s r ws s.by) fine.high0 in
     let k1 = key1.ensures.key ∙ ap (λ t. dealt_shift_key d One s r ws t h1) fine.low1 ∙ ap (dealt_shift_key d One s r ws s.by) fine.high1 in
-    let s0 = share_is d s r ws m x Zero key0.result.key key0.new.rows.low.rows.now key0.new.rows.high.rows.now half0.result.own.0
+    let s0 = share_is d s r ws m x Zero key0.result.key key0.new.low.rows.now key0.new.high.rows.now half0.result.own.0
     k0 low0 high0 sign half0.ensures.share in
-    let s1 = share_is d s r ws m y One key1.result.key key1.new.rows.low.rows.now key1.new.rows.high.rows.now half1.result.own.0
+    let s1 = share_is d s r ws m y One key1.result.key key1.new.low.rows.now key1.new.high.rows.now half1.result.own.0
     k1 low1 high1 sign half1.ensures.share in
     let width = half0.ensures.width ∙ ap (λ k. k.shift.width) key0.ensures.key in
     let both = c.exchange.ensures.held ∙ ap (λ w. sum_of (size w) half0.result.own.0 half1.result.own.0) width

@@ -4,6 +4,5 @@ use Rattle.gates.proofs.shift.Fresh+ShiftKey+Word.answer_shift.Goals as goal
 
 pub returns-clause-share : goal.returns-clause-share
 returns-clause-share g c =
-    let rows = c.args.rows.now in
     ap (λ s. s.0) c.new.ensures.own ∙ c.share_at-own.ensures
-    ∙ share_by_sign g.X.Expander.meaning c.args.sign c.args.self.key rows.low.rows.now rows.high.rows.now c.args.m.0
+    ∙ share_by_sign g.X.Expander.meaning c.args.sign c.args.self.key c.args.low.now.rows.now c.args.high.now.rows.now c.args.m.0
