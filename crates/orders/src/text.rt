@@ -1,5 +1,6 @@
 // Lines cut into words, and words read as numbers and seeds.
-ghost use Rattle.std.specs.Prelude.{◌≡◌, ◌^◌, ◌<◌, ◌≤◌, min, true, [], length, IfOk, slice_index_or};
+ghost use Rattle.std.specs.Prelude.{◌≡◌, ◌+◌, ◌^◌, ◌<◌, ◌≤◌, min, true, not, [], length, drop, IfOk, ◌==◌, slice_index_or};
+ghost use Rattle.std.specs.List.{prefix_len};
 ghost use Rattle.orders.specs.Text.{pieces, words, nth, digits, numeral, value, decimal_of, number_of};
 ghost use Rattle.orders.specs.Text.{hexes, hex_of, or_zero, byte_of, hex_bytes, HexBytes, seed_from};
 
@@ -22,6 +23,32 @@ pub fn piece_at(text: &[u8], by: u8, k: usize) -> &[u8]
     text.split(|b| *b == by).nth(k).unwrap_or(&[])
 }
 
+// Where the spaces end that begin at a place.
+fn past_spaces(line: &[u8], from: usize) -> usize
+    requires { from ≤ length line.now }
+    ensures is { result ≡ from + prefix_len (λ b. b == 32) (drop from line.now) }
+    ensures within { result ≤ length line.now }
+{
+    let mut i = from;
+    while i < line.len() && line[i] == b' ' {
+        i += 1;
+    }
+    i
+}
+
+// Where the word ends that begins at a place.
+fn past_word(line: &[u8], from: usize) -> usize
+    requires { from ≤ length line.now }
+    ensures is { result ≡ from + prefix_len (λ b. not (b == 32)) (drop from line.now) }
+    ensures within { result ≤ length line.now }
+{
+    let mut i = from;
+    while i < line.len() && line[i] != b' ' {
+        i += 1;
+    }
+    i
+}
+
 // Word number `n` of a line, counted from 1; empty where there is none.
 pub fn word_at(line: &[u8], n: usize) -> &[u8]
     ensures { result.now ≡ nth (words line.now) n }
@@ -29,10 +56,13 @@ pub fn word_at(line: &[u8], n: usize) -> &[u8]
     if n == 0 {
         return &[];
     }
-    line.split(|b| *b == b' ')
-        .filter(|word| !word.is_empty())
-        .nth(n - 1)
-        .unwrap_or(&[])
+    let mut start = past_spaces(line, 0);
+    let mut left = n - 1;
+    while left > 0 && start < line.len() {
+        start = past_spaces(line, past_word(line, start));
+        left -= 1;
+    }
+    &line[start..past_word(line, start)]
 }
 
 // Stays: here and at `all_hex` it is one line of `all`; one function of both over the test would be `all` again.
