@@ -2,7 +2,7 @@
 ghost use Rattle.std.specs.Prelude.{◌≡◌, ◌+◌, ◌^◌, ◌<◌, ◌≤◌, min, true, not, [], length, drop, IfOk, ◌==◌, slice_index_or};
 ghost use Rattle.std.specs.List.{prefix_len};
 ghost use Rattle.orders.specs.Text.{pieces, words, nth, digits, numeral, value, decimal_of, number_of};
-ghost use Rattle.orders.specs.Text.{hexes, hex_of, or_zero, byte_of, hex_bytes, HexBytes, seed_from};
+ghost use Rattle.orders.specs.Text.{hex, hexes, hex_value, hex_of, or_zero, byte_of, hex_bytes, HexBytes, seed_from};
 
 use crate::number::Number;
 use crate::types::Wrong;
@@ -116,14 +116,30 @@ pub fn number_of<N: Number>(word: &[u8]) -> Result<N, Wrong>
     Ok(N::hold(number))
 }
 
+// The value of a hex digit.
+fn hex_value(b: u8) -> u8
+    requires { hex b ≡ true }
+    ensures is { result ≡ hex_value b }
+    ensures small { result < 16 }
+{
+    if b >= b'a' {
+        b - b'a' + 10
+    } else if b >= b'A' {
+        b - b'A' + 10
+    } else {
+        b - b'0'
+    }
+}
+
 // A hex digit, in either case.
 pub fn hex_digit(b: u8) -> Result<u8, Wrong>
     ensures { result ≡ hex_of b }
 {
-    (b as char)
-        .to_digit(16)
-        .map(|digit| digit as u8)
-        .ok_or(Wrong::NotHex)
+    if b.is_ascii_hexdigit() {
+        Ok(hex_value(b))
+    } else {
+        Err(Wrong::NotHex)
+    }
 }
 
 // A hex digit's value, 0 for any other byte.
@@ -131,7 +147,12 @@ fn digit_or_zero(b: u8) -> u8
     ensures is { result ≡ or_zero (hex_of b) }
     ensures small { result < 16 }
 {
-    hex_digit(b).unwrap_or(0)
+    match b {
+        b'0'..=b'9' => b - b'0',
+        b'a'..=b'f' => b - b'a' + 10,
+        b'A'..=b'F' => b - b'A' + 10,
+        _ => 0,
+    }
 }
 
 // The byte that two hex digits write, the high one first.
@@ -152,7 +173,7 @@ fn hex_bytes(word: &[u8]) -> [u8; 16]
     requires { (length word.now ≡ 32) × (hexes word.now ≡ true) }
     ensures { result ≡ hex_bytes word.now }
 {
-    array::from_fn(|i| hex_pair(word[2 * i], word[2 * i + 1]))
+    array::from_fn(|i| 16 * hex_value(word[2 * i]) + hex_value(word[2 * i + 1]))
 }
 
 // 32 hex digits as a seed.
