@@ -6,3 +6,4 @@ pub mod WordsBack
 pub mod Numbers
 pub mod Chosen
 pub mod Made
+pub mod Words

@@ -1,6 +1,8 @@
 -- What a closure that keeps its captures gave at each index.
-use Rattle.std.proofs.Common.{◌≡◌, ℕ, zero, suc, ◌+◌, ◌<◌, List, get_or, ap, ◌∙◌, subst, arith}
-use Rattle.std.specs.Array.{IsFromFnResultFrom}
+use Rattle.std.proofs.Common.{◌≡◌, ℕ, zero, suc, ◌+◌, ◌<◌, List, [], ◌∷◌, get_or, sym, refl, ap, ◌∙◌, subst, arith}
+use Rattle.std.specs.Array.{IsFromFnResultFrom, index_steps}
+use Rattle.std.specs.Iterator.{CallableAtEachTurn}
+use Rattle.std.specs.List.{FoldsTo}
 use Rattle.std.specs.Fn.{Called, Mut}
 
 module _ {F B : Type 0} (g : Mut F (ℕ × Unit {0}) B) (h : ℕ → B) (f : F)
@@ -15,3 +17,14 @@ module _ {F B : Type 0} (g : Mut F (ℕ × Unit {0}) B) (h : ℕ → B) (f : F)
 
   pub made_at : (ys : List B) (n k : ℕ) (d : B) → IsFromFnResultFrom g f ys 0 n → k < n → get_or ys k d ≡ h k
   made_at ys n k d e lt = made_from ys 0 n k k d e lt (omega arith)
+
+-- it may be called at each index, where it may be called at each with its captures as they are
+module _ {F : Type 0} (R : F → ℕ → F → Type 0) (Q : F → ℕ → Type 0) (f : F) (keeps : (i : ℕ) (q : F) → R f i q → q ≡ f) where
+  kept : (xs : List ℕ) (p q : F) → p ≡ f → FoldsTo R p xs q → q ≡ f
+  kept [] p q a c = sym c ∙ a
+  kept (x ∷ xs) p q a c = kept xs c.0 q (keeps x c.0 (subst (λ w. R w x c.0) a c.1)) c.2
+
+  pub callable_at : (n : ℕ) → ((i : ℕ) → i < n → Q f i) → CallableAtEachTurn (index_steps n) R Q 0 f
+  callable_at n takes = record {
+    at = λ xs t q x u yields folds step. subst (λ w. Q w x) (sym (kept xs f q refl folds)) (takes x (omega (arith, step.0, step.1)));
+  }

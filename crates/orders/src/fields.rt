@@ -33,7 +33,7 @@ pub fn group_of(word: &[u8]) -> Result<Group, Wrong>
 }
 
 // What was read of word number `n`, with that number where it was wrong.
-fn placed<T: Drop>(word: &[u8], n: usize, read: Result<T, Wrong>) -> Result<T, Fault>
+pub fn placed<T: Drop>(word: &[u8], n: usize, read: Result<T, Wrong>) -> Result<T, Fault>
     ensures { result ≡ placed word.now n read }
 {
     let read = if word.is_empty() {

@@ -12,7 +12,7 @@ mod number;
 mod text;
 mod types;
 
-pub use fields::{ended, field, group_of, kind_of, number_at, number_part, payload_of};
+pub use fields::{ended, field, group_of, kind_of, number_at, number_part, payload_of, placed};
 pub use gates::{coefficients_of, gate_name_of, random_words_of};
 use gates::{gate_order, hold_order};
 pub use number::Number;

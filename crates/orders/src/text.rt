@@ -1,7 +1,8 @@
 // Lines cut into words, and words read as numbers and seeds.
-ghost use Rattle.std.specs.Prelude.{◌≡◌, ◌^◌, ◌<◌, ◌≤◌, min, true, [], length, IfOk, slice_index_or};
+ghost use Rattle.std.specs.Prelude.{◌≡◌, ◌+◌, ◌^◌, ◌<◌, ◌≤◌, min, true, not, [], length, drop, IfOk, ◌==◌, slice_index_or};
+ghost use Rattle.std.specs.List.{prefix_len};
 ghost use Rattle.orders.specs.Text.{pieces, words, nth, digits, numeral, value, decimal_of, number_of};
-ghost use Rattle.orders.specs.Text.{hexes, hex_of, or_zero, byte_of, hex_bytes, HexBytes, seed_from};
+ghost use Rattle.orders.specs.Text.{hex, hexes, hex_value, hex_of, or_zero, byte_of, hex_bytes, HexBytes, seed_from};
 
 use crate::number::Number;
 use crate::types::Wrong;
@@ -12,7 +13,7 @@ use std::array;
 pub fn pieces_of(text: &[u8], by: u8) -> usize
     ensures { result ≡ length (pieces by text.now) }
 {
-    text.split(|b| *b == by).count()
+    text.iter().map(|b| usize::from(*b == by)).sum::<usize>() + 1
 }
 
 // Piece number `k`, counted from 0; empty where there is none.
@@ -22,6 +23,32 @@ pub fn piece_at(text: &[u8], by: u8, k: usize) -> &[u8]
     text.split(|b| *b == by).nth(k).unwrap_or(&[])
 }
 
+// Where the spaces end that begin at a place.
+fn past_spaces(line: &[u8], from: usize) -> usize
+    requires { from ≤ length line.now }
+    ensures is { result ≡ from + prefix_len (λ b. b == 32) (drop from line.now) }
+    ensures within { result ≤ length line.now }
+{
+    let mut i = from;
+    while i < line.len() && line[i] == b' ' {
+        i += 1;
+    }
+    i
+}
+
+// Where the word ends that begins at a place.
+fn past_word(line: &[u8], from: usize) -> usize
+    requires { from ≤ length line.now }
+    ensures is { result ≡ from + prefix_len (λ b. not (b == 32)) (drop from line.now) }
+    ensures within { result ≤ length line.now }
+{
+    let mut i = from;
+    while i < line.len() && line[i] != b' ' {
+        i += 1;
+    }
+    i
+}
+
 // Word number `n` of a line, counted from 1; empty where there is none.
 pub fn word_at(line: &[u8], n: usize) -> &[u8]
     ensures { result.now ≡ nth (words line.now) n }
@@ -29,10 +56,13 @@ pub fn word_at(line: &[u8], n: usize) -> &[u8]
     if n == 0 {
         return &[];
     }
-    line.split(|b| *b == b' ')
-        .filter(|word| !word.is_empty())
-        .nth(n - 1)
-        .unwrap_or(&[])
+    let mut start = past_spaces(line, 0);
+    let mut left = n - 1;
+    while left > 0 && start < line.len() {
+        start = past_spaces(line, past_word(line, start));
+        left -= 1;
+    }
+    &line[start..past_word(line, start)]
 }
 
 // Stays: here and at `all_hex` it is one line of `all`; one function of both over the test would be `all` again.
@@ -86,14 +116,30 @@ pub fn number_of<N: Number>(word: &[u8]) -> Result<N, Wrong>
     Ok(N::hold(number))
 }
 
+// The value of a hex digit.
+fn hex_value(b: u8) -> u8
+    requires { hex b ≡ true }
+    ensures is { result ≡ hex_value b }
+    ensures small { result < 16 }
+{
+    if b >= b'a' {
+        b - b'a' + 10
+    } else if b >= b'A' {
+        b - b'A' + 10
+    } else {
+        b - b'0'
+    }
+}
+
 // A hex digit, in either case.
 pub fn hex_digit(b: u8) -> Result<u8, Wrong>
     ensures { result ≡ hex_of b }
 {
-    (b as char)
-        .to_digit(16)
-        .map(|digit| digit as u8)
-        .ok_or(Wrong::NotHex)
+    if b.is_ascii_hexdigit() {
+        Ok(hex_value(b))
+    } else {
+        Err(Wrong::NotHex)
+    }
 }
 
 // A hex digit's value, 0 for any other byte.
@@ -101,7 +147,12 @@ fn digit_or_zero(b: u8) -> u8
     ensures is { result ≡ or_zero (hex_of b) }
     ensures small { result < 16 }
 {
-    hex_digit(b).unwrap_or(0)
+    match b {
+        b'0'..=b'9' => b - b'0',
+        b'a'..=b'f' => b - b'a' + 10,
+        b'A'..=b'F' => b - b'A' + 10,
+        _ => 0,
+    }
 }
 
 // The byte that two hex digits write, the high one first.
@@ -122,7 +173,7 @@ fn hex_bytes(word: &[u8]) -> [u8; 16]
     requires { (length word.now ≡ 32) × (hexes word.now ≡ true) }
     ensures { result ≡ hex_bytes word.now }
 {
-    array::from_fn(|i| hex_pair(word[2 * i], word[2 * i + 1]))
+    array::from_fn(|i| 16 * hex_value(word[2 * i]) + hex_value(word[2 * i + 1]))
 }
 
 // 32 hex digits as a seed.

@@ -13,10 +13,11 @@ const LONGEST: usize = 54880;
 pub fn owners_at(line: &[u8], n: usize) -> Result<usize, Fault>
     ensures { result ≡ owners_field (words line.now) n }
 {
-    if word_at(line, n).is_empty() {
+    let word = word_at(line, n);
+    if word.is_empty() {
         return Ok(0);
     }
-    field(line, n, |word| numbers_in(word, u8::MAX as u64))
+    numbers_in(word, u8::MAX as u64).map_err(|what| Fault { what, word: n })
 }
 
 // The length of the buffer, that of the longest book where the word is missing.
@@ -34,8 +35,5 @@ pub fn room_at(line: &[u8], n: usize) -> Result<usize, Fault>
 pub fn hex_at(line: &[u8], n: usize) -> Result<usize, Fault>
     ensures { result ≡ hex_field (words line.now) n }
 {
-    if word_at(line, n).is_empty() {
-        return Ok(0);
-    }
-    field(line, n, hex_in)
+    hex_in(word_at(line, n)).map_err(|what| Fault { what, word: n })
 }
