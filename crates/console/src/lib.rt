@@ -65,25 +65,20 @@ impl Session {
         gate_jobs::hold(rt, &order, m, k)
     }
 
-    fn carry_out(&mut self, rt: &HostRuntime, line: &[u8]) -> Result<(), Stop>
-        ensures key { KeyAfter (parsed line.now) self.old.key self.new.key }
-        ensures gate { GateAfter (parsed line.now) self.old.gate self.new.gate }
-    {
-        match parse(line)? {
-            Order::Nothing => Ok(()),
-            Order::Deal(order) => self.deal(rt, order),
-            Order::At(point) => self.at(rt, point),
-            Order::Gate(order) => self.gate(rt, order),
-            Order::Hold(m, k) => self.hold(rt, m, k),
-        }
-    }
-
     // Carries out one line, or says why not. Only a line that deals changes what is remembered.
     pub fn perform(&mut self, rt: &HostRuntime, line: &[u8]) -> io::Result<()>
         ensures key { KeyAfter (parsed line.now) self.old.key self.new.key }
         ensures gate { GateAfter (parsed line.now) self.old.gate self.new.gate }
     {
-        self.carry_out(rt, line).or_else(|stop| stop.say(rt))
+        let done = match parse(line) {
+            Ok(Order::Nothing) => return Ok(()),
+            Ok(Order::Deal(order)) => self.deal(rt, order),
+            Ok(Order::At(point)) => self.at(rt, point),
+            Ok(Order::Gate(order)) => self.gate(rt, order),
+            Ok(Order::Hold(m, k)) => self.hold(rt, m, k),
+            Err(fault) => Err(fault.into()),
+        };
+        done.or_else(|stop| stop.say(rt))
     }
 }
 

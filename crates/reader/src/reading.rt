@@ -25,7 +25,8 @@ pub(crate) fn entry_in(book: &[u8], k: usize) -> Option<&[u8]>
     ensures { MatchOption result (length book.now < 24 + 8 * k)
         (λ entry. (24 + 8 * k ≤ length book.now) × (entry.now ≡ slice_range book.now (16 + 8 * k) (24 + 8 * k))) }
 {
-    after(book, 16).chunks_exact(8).nth(k)
+    let at = k.checked_mul(8)?.checked_add(16)?;
+    after(book, at).get(..8)
 }
 
 // The body of wire k; nothing where its entry in the contents or the body is not whole.

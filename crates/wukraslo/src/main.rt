@@ -76,8 +76,9 @@ impl Example<'_> {
 
     // The same with one line, to which the roots of a key are added.
     fn show_key(&mut self, text: &str, start: &str) -> Result<()> {
+        self.show(text, &[])?;
         let line = format!(in self.rt.alloc(); "{start} {ROOTS}")?;
-        self.show(text, &[line.as_str()])
+        self.perform(line.as_str())
     }
 
     fn points(&mut self) -> Result<()> {
