@@ -25,6 +25,7 @@ pub fn piece_at(text: &[u8], by: u8, k: usize) -> &[u8]
 
 // Where the spaces end that begin at a place.
 // Stays: here and at `past_word` a loop over places; a chain over the pieces of a line takes 19 instructions a space, this 5.
+// They are two, since the test of one with a flag would be asked anew at every byte.
 fn past_spaces(line: &[u8], from: usize) -> usize
     requires { from ≤ length line.now }
     ensures is { result ≡ from + prefix_len (λ b. b == 32) (drop from line.now) }
@@ -144,6 +145,7 @@ pub fn hex_digit(b: u8) -> Result<u8, Wrong>
 }
 
 // A hex digit's value, 0 for any other byte.
+// Stays: as a match; with `hex_value` behind a test, filling a buffer takes up to a half more.
 fn digit_or_zero(b: u8) -> u8
     ensures is { result ≡ or_zero (hex_of b) }
     ensures small { result < 16 }

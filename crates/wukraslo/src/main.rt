@@ -76,7 +76,7 @@ impl Example<'_> {
 
     // The same with one line, to which the roots of a key are added.
     fn show_key(&mut self, text: &str, start: &str) -> Result<()> {
-        self.show(text, &[])?;
+        println!(self.rt; "{text}")?;
         let line = format!(in self.rt.alloc(); "{start} {ROOTS}")?;
         self.perform(line.as_str())
     }
